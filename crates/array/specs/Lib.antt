@@ -1,0 +1,4 @@
+pub mod Answers
+pub mod Delivery
+pub mod Describe
+pub mod Fields

@@ -1,0 +1,56 @@
+-- The keys that the rules for blocks name, as they stand after folding, and which of them count.
+use mathlib.Core.Bool.{Bool, cond}
+use mathlib.Core.List.{List, [], _∷_}
+use Prim.Native.Nat.{ℕ}
+use lib.ListN.{getD, take}
+use Rattle.scan.specs.Byte.{ascii, same}
+use Rattle.scan.specs.declared.Span.{Span}
+use Rattle.header.specs.Entry.{Entry}
+
+abbrev pub SizeKey : List ℕ
+SizeKey = ascii "size"
+
+abbrev pub VersionKey : List ℕ
+VersionKey = ascii "edf_dataformatversion"
+
+abbrev pub DataBlocksKey : List ℕ
+DataBlocksKey = ascii "edf_datablocks"
+
+abbrev pub BlockIDKey : List ℕ
+BlockIDKey = ascii "edf_datablockid"
+
+abbrev pub BoundaryKey : List ℕ
+BoundaryKey = ascii "edf_blockboundary"
+
+abbrev pub HeaderSizeKey : List ℕ
+HeaderSizeKey = ascii "edf_headersize"
+
+abbrev pub BinarySizeKey : List ℕ
+BinarySizeKey = ascii "edf_binarysize"
+
+abbrev pub FileNameKey : List ℕ
+FileNameKey = ascii "edf_binaryfilename"
+
+-- An EDF_ key: it starts with `edf_`.
+unfoldable pub isEdfKey : List ℕ → Bool
+isEdfKey k = same (take 4 k) (ascii "edf_")
+
+-- What stands past the last entry: no key is empty.
+abbrev pub noEntry : Entry
+noEntry = record { key = []; value = []; span = record { offset = 0; length = 0 } }
+
+-- The first entry of a header, and its second.
+abbrev pub first : List Entry → Entry
+first es = getD es 0 noEntry
+
+abbrev pub second : List Entry → Entry
+second es = getD es 1 noEntry
+
+-- "A file is of kind 2 exactly if its first header has a statement and its key starts with `edf_`; else of kind 1."
+unfoldable pub kindOf : List Entry → ℕ
+kindOf es = cond (isEdfKey (first es .key)) 2 1
+
+-- "In kind 2 an EDF_ key counts only if all statements before it in its header are EDF_ keys": the entries that count.
+unfoldable pub counting : List Entry → List Entry
+counting [] = []
+counting (e ∷ es) = let r = counting es in cond (isEdfKey (e .key)) (e ∷ r) []

@@ -1,0 +1,54 @@
+-- The examples that 01 marks P ("Examples both sides"), as one table under one statement, proved by computing.
+use mathlib.Core.Path.{refl}
+use mathlib.Core.List.{List, [], _∷_}
+use lib.IntN.{pos, negsuc}
+use Rattle.scan.specs.Byte.{ascii, same}
+use Rattle.scan.specs.Outcome.{refused}
+use Rattle.scan.specs.Search.{firstWith, firstFrom}
+use Rattle.text.specs.Escapes.{letter, letters, lookupByte, meaning, meanings}
+use Rattle.text.specs.Number.{digit, digitsFrom, natural, wholeNumber}
+use Rattle.text.specs.Text.{escapedBody, quotedText, textOf, unescapedAfter, withoutLineBreaks}
+use Rattle.text.specs.Value.{leading, trimmedEnd, trimmed, withoutOpeningQuote, withoutClosingQuote, valueSpan, valueOf}
+use Rattle.text.specs.Whitespace.{whitespace}
+use Rattle.header.specs.Frame.{openingAt, frameAt, headerAt}
+use Rattle.blocks.specs.Judging.{blockAt}
+use Rattle.blocks.specs.Opening.{openedFrom, opened}
+use Rattle.raster.specs.Axis.{forward, backward, configurations, insertWithAfter, orderFrom, orderOf}
+use Rattle.raster.specs.Bytes.{highFirst, lowFirst, numberOf, highBytes, lowBytes, bytesOf, joined}
+use Rattle.raster.specs.Element.{nearest, offsetBits, elementBits, elementBytes}
+use Rattle.raster.specs.Position.{product, positionFrom, storedPosition, indexAt, linearPosition}
+use Rattle.raster.specs.Types.{types, typeOf, typeWords, orderWords, compressionWords, codeFrom, codeOf}
+use Rattle.array.specs.Delivery.{storedElement, deliveredElement, delivered}
+use Rattle.array.specs.Describe.{dimsOf, wordsOf, described}
+use Rattle.array.specs.Fields.{wordField, rangeField, foundFirst, dimsFrom}
+use Rattle.writer.specs.File.{pixelBytes, storedPixels}
+use Rattle.edf.specs.Example.{Example, stored-as, order-is, fields-refused, offset-gives, text-is, value-form, opens-as, Field, Each}
+
+-- Three dimensions, and configuration 49.
+unfoldable pub fortyNine : List Field
+fortyNine =
+    record { name = ascii "Dim_1"; value = ascii "2" } ∷ record { name = ascii "Dim_2"; value = ascii "2" }
+    ∷ record { name = ascii "Dim_3"; value = ascii "2" }
+    ∷ record { name = ascii "DataRasterConfiguration"; value = ascii "49" } ∷ []
+
+unfoldable pub table : List Example
+table =
+    stored-as 2 (3 ∷ 2 ∷ 1 ∷ 6 ∷ 5 ∷ 4 ∷ [])
+    ∷ stored-as 5 (1 ∷ 4 ∷ 2 ∷ 5 ∷ 3 ∷ 6 ∷ [])
+    ∷ stored-as 6 (3 ∷ 6 ∷ 2 ∷ 5 ∷ 1 ∷ 4 ∷ [])
+    ∷ stored-as 7 (4 ∷ 1 ∷ 5 ∷ 2 ∷ 6 ∷ 3 ∷ [])
+    ∷ order-is 3 17 (forward 1 ∷ forward 3 ∷ forward 2 ∷ [])
+    ∷ order-is 3 48 (backward 3 ∷ backward 2 ∷ backward 1 ∷ [])
+    ∷ fields-refused fortyNine 18 5
+    ∷ offset-gives 3 (255 ∷ 250 ∷ []) (pos 10) 65535
+    ∷ offset-gives 1 (3 ∷ []) (negsuc 4) 0
+    ∷ text-is (ascii "a\\:b") (ascii "a;b")
+    ∷ text-is (ascii "\\\"") []
+    ∷ value-form (ascii "x;") (ascii "\"x\\:\"")
+    ∷ opens-as [] (refused 3 0)
+    ∷ []
+
+pub examples-hold : Each table
+unfolding table fortyNine delivered deliveredElement storedElement elementBytes elementBits offsetBits nearest typeOf types numberOf highFirst bytesOf highBytes joined storedPosition positionFrom orderOf orderFrom insertWithAfter configurations storedPixels pixelBytes product indexAt linearPosition described wordsOf wordField dimsOf dimsFrom foundFirst rangeField wholeNumber natural digitsFrom digit same textOf unescapedAfter withoutLineBreaks meaning meanings lookupByte valueOf valueSpan trimmed leading trimmedEnd whitespace withoutOpeningQuote withoutClosingQuote quotedText escapedBody letter letters opened openedFrom blockAt headerAt frameAt openingAt
+examples-hold =
+    ((refl, refl), ((refl, refl), ((refl, refl), ((refl, refl), (refl, (refl, (refl, (refl, (refl, (refl, (refl, (refl, (refl, tt)))))))))))))

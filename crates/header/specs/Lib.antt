@@ -1,0 +1,4 @@
+pub mod Entry
+pub mod Frame
+pub mod Grammar
+pub mod Statements

@@ -1,0 +1,23 @@
+// A header: its frame, its statements, its keys.
+
+// A header that stands at some offset: the offsets of its `{` and `}`, and its length from the first byte of its start
+// pattern to the last of its end pattern.
+pub struct Header {
+    pub left: usize,
+    pub right: usize,
+    pub length: usize,
+}
+
+// A statement: the offsets of its first byte, its `=` and its `;`.
+pub struct Statement {
+    pub first: usize,
+    pub equals: usize,
+    pub end: usize,
+}
+
+// What stands where a statement may start: one, nothing but whitespace, or neither.
+pub enum Next {
+    One(Statement),
+    End,
+    Malformed,
+}

@@ -1,0 +1,6 @@
+pub mod Axis
+pub mod Bytes
+pub mod Element
+pub mod Pixels
+pub mod Position
+pub mod Types

@@ -1,0 +1,4 @@
+pub mod Cases
+pub mod Chains
+pub mod Decides
+pub mod Searches

@@ -1,0 +1,9 @@
+pub mod Answers
+pub mod Decimal
+pub mod Escapes
+pub mod Fold
+pub mod Key
+pub mod Number
+pub mod Text
+pub mod Value
+pub mod Whitespace
