@@ -1,9 +1,9 @@
 -- "An unknown type, order or compression taking the default" is the slip that this library must not make.
 use mathlib.Core.Path.{_≡_, refl}
 use mathlib.Core.List.{List}
-use mathlib.Core.Option.{Option, none, some}
+use mathlib.Core.Option.{none, some}
 use Prim.Native.Nat.{ℕ}
-use Rattle.scan.specs.Outcome.{Outcome, ok, refused}
+use Rattle.scan.specs.Outcome.{ok, refused}
 use Rattle.raster.specs.Types.{codeOf}
 use Rattle.array.specs.Fields.{wordField}
 

@@ -5,7 +5,7 @@ use mathlib.Core.Option.{Option, Option·map}
 use Prim.Native.Nat.{ℕ, _*_}
 use lib.Dec.{eqb, leb}
 use lib.IntN.{ℤ, pos, negsuc}
-use lib.ListN.{length, getD, take}
+use lib.ListN.{length, getD}
 use Rattle.scan.specs.Byte.{ascii}
 use Rattle.scan.specs.Outcome.{Outcome, ok, require, _>>=_, _>>_}
 use Rattle.header.specs.Entry.{Entry}

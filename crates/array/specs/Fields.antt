@@ -1,6 +1,6 @@
 -- The fields of an array: words, whole numbers in a range, and Dims. "An absent field takes the default." Errors 17 and 18 have
 -- the field's number as their position.
-use mathlib.Core.Bool.{Bool, cond, _&&_}
+use mathlib.Core.Bool.{cond, _&&_}
 use mathlib.Core.List.{List, [], _∷_}
 use mathlib.Core.Option.{Option, none, some}
 use Prim.Native.Nat.{ℕ}

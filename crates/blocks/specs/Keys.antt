@@ -4,7 +4,6 @@ use mathlib.Core.List.{List, [], _∷_}
 use Prim.Native.Nat.{ℕ}
 use lib.ListN.{getD, take}
 use Rattle.scan.specs.Byte.{ascii, same}
-use Rattle.scan.specs.declared.Span.{Span}
 use Rattle.header.specs.Entry.{Entry}
 
 abbrev pub SizeKey : List ℕ

@@ -4,7 +4,6 @@ use mathlib.Core.List.{List, [], _∷_}
 use lib.IntN.{pos, negsuc}
 use Rattle.scan.specs.Byte.{ascii, same}
 use Rattle.scan.specs.Outcome.{refused}
-use Rattle.scan.specs.Search.{firstWith, firstFrom}
 use Rattle.text.specs.Escapes.{letter, letters, lookupByte, meaning, meanings}
 use Rattle.text.specs.Number.{digit, digitsFrom, natural, wholeNumber}
 use Rattle.text.specs.Text.{escapedBody, quotedText, textOf, unescapedAfter, withoutLineBreaks}
@@ -14,10 +13,10 @@ use Rattle.header.specs.Frame.{openingAt, frameAt, headerAt}
 use Rattle.blocks.specs.Judging.{blockAt}
 use Rattle.blocks.specs.Opening.{openedFrom, opened}
 use Rattle.raster.specs.Axis.{forward, backward, configurations, insertWithAfter, orderFrom, orderOf}
-use Rattle.raster.specs.Bytes.{highFirst, lowFirst, numberOf, highBytes, lowBytes, bytesOf, joined}
+use Rattle.raster.specs.Bytes.{highFirst, numberOf, highBytes, bytesOf, joined}
 use Rattle.raster.specs.Element.{nearest, offsetBits, elementBits, elementBytes}
 use Rattle.raster.specs.Position.{product, positionFrom, storedPosition, indexAt, linearPosition}
-use Rattle.raster.specs.Types.{types, typeOf, typeWords, orderWords, compressionWords, codeFrom, codeOf}
+use Rattle.raster.specs.Types.{types, typeOf}
 use Rattle.array.specs.Delivery.{storedElement, deliveredElement, delivered}
 use Rattle.array.specs.Describe.{dimsOf, wordsOf, described}
 use Rattle.array.specs.Fields.{wordField, rangeField, foundFirst, dimsFrom}

@@ -1,13 +1,13 @@
 -- Elements: what the byte order and the value offset do to them, for every width.
-use mathlib.Core.Path.{_≡_, refl, ap, _∙_}
+use mathlib.Core.Path.{_≡_, refl, ap}
 use mathlib.Core.Bool.{true, false}
 use mathlib.Core.List.{List, [], _∷_, _++_, reverse, reverse-cons}
-use Prim.Native.Nat.{ℕ, suc, _+_, _-_, _*_, _^_}
+use Prim.Native.Nat.{ℕ, _+_, _-_, _*_, _^_}
 use lib.IntN.{ℤ, pos, negsuc, _+ℤ_}
 use lib.Signed.{ltZ}
 use Rattle.raster.specs.Bytes.{highFirst, lowFirst, numberOf}
 use Rattle.raster.specs.Element.{half, signedOf, bitsOf, nearest, offsetBits, elementBits}
-use Rattle.raster.specs.Types.{Class, unsigned, signed, float, DataType}
+use Rattle.raster.specs.Types.{unsigned, signed, float, DataType}
 
 -- ---- Byte order
 

@@ -1,15 +1,15 @@
 -- "Text of 0 to 1,023 bytes from 1 to 127 comes back the same." It does for any list of bytes.
-use mathlib.Core.Path.{_≡_, refl, sym, ap, _∙_}
-use mathlib.Core.Bool.{Bool, true, false, cond, _||_}
+use mathlib.Core.Path.{_≡_, refl, sym, ap}
+use mathlib.Core.Bool.{false}
 use mathlib.Core.List.{List, [], _∷_, _++_}
 use mathlib.Core.Option.{Option, none, some}
-use Prim.Native.Nat.{ℕ, zero, suc, _+_, _-_}
+use Prim.Native.Nat.{ℕ, suc, _+_, _-_}
 use native.Mathlib.Omega.{arith}
 use borrow.Author.Tests.{eqb-true, lt-ltb}
 use lib.Dec.{eqb}
-use lib.ListN.{length, take, length-append}
+use lib.ListN.{length, length-append}
 use lib.Seq.{getD-append-seam, take-append-seam}
-use Rattle.scan.specs.Byte.{byte, bytesAt}
+use Rattle.scan.specs.Byte.{byte}
 use Rattle.scan.proofs.Cases.{by-test}
 use Rattle.text.specs.Escapes.{letter, letters, lookupByte, meaning, meanings}
 use Rattle.text.specs.Text.{escapeWith, escapedBody, quotedText, textOf, unescapedAfter, withoutLineBreaks}

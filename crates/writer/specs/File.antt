@@ -1,7 +1,7 @@
 -- The file that the writer makes, with errors 24 and 25.
 use mathlib.Core.Bool.{Bool, false, _&&_}
 use mathlib.Core.List.{List, [], _∷_, _++_}
-use Prim.Native.Nat.{ℕ, zero, suc, _+_, _-_, _*_}
+use Prim.Native.Nat.{ℕ, suc, _-_, _*_}
 use lib.Dec.{eqb, leb}
 use lib.IntN.{ℤ, pos, negsuc}
 use lib.ListN.{length, take, getD}
@@ -10,7 +10,7 @@ use Rattle.scan.specs.Outcome.{Outcome, ok, require, _>>=_, _>>_}
 use Rattle.text.specs.Decimal.{decimal}
 use Rattle.text.specs.Text.{every, textByte, shortText, quotedText}
 use Rattle.blocks.specs.IdentityText.{identityText}
-use Rattle.raster.specs.Axis.{Axis, configurations, orderOf}
+use Rattle.raster.specs.Axis.{configurations, orderOf}
 use Rattle.raster.specs.Bytes.{numberOf, bytesOf, joined}
 use Rattle.raster.specs.Position.{product, indexAt, linearPosition}
 use Rattle.raster.specs.Types.{DataType, typeOf, orderWords}
