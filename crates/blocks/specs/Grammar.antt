@@ -12,7 +12,7 @@ use Rattle.header.specs.Entry.{Entry, bodyOf, entries, valueIn}
 use Rattle.header.specs.Grammar.{IsHeader, Parse}
 use Rattle.header.specs.declared.Header.{Header}
 use Rattle.header.specs.declared.Statement.{Statement}
-use Rattle.blocks.specs.Keys.{SizeKey, VersionKey, DataBlocksKey, BlockIDKey, BoundaryKey, HeaderSizeKey, BinarySizeKey, FileNameKey, first, second, kindOf, counting}
+use Rattle.blocks.specs.Keys.{VersionKey, DataBlocksKey, BlockIDKey, BoundaryKey, HeaderSizeKey, FileNameKey, first, second, kindOf, counting, countingIn, sizeValue}
 use Rattle.blocks.specs.Values.{NumberOr, HeaderSize, IsVersion, AsksFor, IsIdentity}
 use Rattle.blocks.specs.declared.FileRules.{FileRules}
 use Rattle.blocks.specs.declared.Row.{Row}
@@ -37,8 +37,8 @@ plainRules kind = record { kind = kind; boundary = 512; expected = 0 }
 -- EDF_DataFormatVersion (..) or EDF_DataBlockID."
 pub data Declares (es : List Entry) (r : FileRules) : Type 0 where
   kind-1 : kindOf es ≡ 1 → r ≡ plainRules 1 → Declares es r
-  data-block : first es .key ≡ BlockIDKey → r ≡ plainRules 2 → Declares es r
-  general : GeneralRules es r → Declares es r
+  kind-2 : first es .key ≡ BlockIDKey → r ≡ plainRules 2 → Declares es r
+  with-general : GeneralRules es r → Declares es r
 
 -- ---- What a header says of its own block
 
@@ -48,36 +48,29 @@ pub record NoIdentity (row : Row) : Type 0 where
   pub instance : row .instance ≡ 0
   pub memory : row .memory ≡ pos 0
 
--- "In kind 1 all EDF_ keys are ignored, and the extent's length is Size (absent: 0)."
-pub record Kind1Block (es : List Entry) (row : Row) : Type 0 where
-  pub data-length : NumberOr 0 0 (valueIn SizeKey es) (row .size)
-  pub kind : row .kind ≡ 1
-  pub identity : NoIdentity row
+-- The kind of a block and its identity, for a header at `start` with the entries `es` in a file with the rules `r`. "Every other
+-- header starts with EDF_DataBlockID." "Identity, the value of EDF_DataBlockID in each data block of kind 2".
+pub data HasRole (r : FileRules) (start : ℕ) (es : List Entry) (row : Row) : Type 0 where
+  plain-block : r .kind ≡ 1 → row .kind ≡ 1 → NoIdentity row → HasRole r start es row
+  general-block : r .kind ≡ 2 → r .expected ≢ 0 → start ≡ 0 → row .kind ≡ 0 → NoIdentity row → HasRole r start es row
+  data-block : r .kind ≡ 2 → (r .expected ≡ 0) ⊎ (start ≢ 0) → row .kind ≡ 1 → first es .key ≡ BlockIDKey
+      → IsIdentity (first es .value) (row .sequence) (row .instance) (row .memory) → HasRole r start es row
 
--- "In kind 2 the length is EDF_BinarySize (absent: 0) and Size is ignored. .. EDF_BinaryFileName must not count."
-pub record Kind2Block (es : List Entry) (row : Row) : Type 0 where
-  pub data-length : NumberOr 0 0 (valueIn BinarySizeKey (counting es)) (row .size)
-  pub header-size : HeaderSize (valueIn HeaderSizeKey (counting es)) (row .header)
-  pub no-file-name : valueIn FileNameKey (counting es) ≡ none
+-- "the extent's length is Size (absent: 0)", or EDF_BinarySize, "a whole number from 0".
+abbrev pub HasSize : FileRules → List Entry → ℕ → Type 0
+HasSize r es size = NumberOr 0 0 (sizeValue (r .kind) es) size
 
--- The first block of a file with a general header.
-pub record GeneralBlock (es : List Entry) (row : Row) : Type 0 where
-  pub rules : Kind2Block es row
-  pub kind : row .kind ≡ 0
-  pub identity : NoIdentity row
+-- "a multiple of the boundary".
+abbrev pub MultipleOf : ℕ → ℕ → Type 0
+MultipleOf boundary length = (n : ℕ) × (length ≡ n * boundary)
 
--- "Every other header starts with EDF_DataBlockID." "Identity, the value of EDF_DataBlockID in each data block of kind 2".
-pub record DataBlock (es : List Entry) (row : Row) : Type 0 where
-  pub rules : Kind2Block es row
-  pub kind : row .kind ≡ 1
-  pub id-key : first es .key ≡ BlockIDKey
-  pub identity : IsIdentity (first es .value) (row .sequence) (row .instance) (row .memory)
-
--- A header at `start` with the entries `es` gives its block the row, in a file with the rules `r`.
-pub data Describes (r : FileRules) (start : ℕ) (es : List Entry) (row : Row) : Type 0 where
-  kind-1 : r .kind ≡ 1 → Kind1Block es row → Describes r start es row
-  general : r .kind ≡ 2 → r .expected ≢ 0 → start ≡ 0 → GeneralBlock es row → Describes r start es row
-  data-block : r .kind ≡ 2 → (r .expected ≡ 0) ⊎ (start ≢ 0) → DataBlock es row → Describes r start es row
+-- All the rules on the keys of one header. "EDF_BinaryFileName must not count."
+pub record KeepsRules (r : FileRules) (start : ℕ) (es : List Entry) (row : Row) : Type 0 where
+  pub role : HasRole r start es row
+  pub size : HasSize r es (row .size)
+  pub no-file-name : valueIn FileNameKey (countingIn (r .kind) es) ≡ none
+  pub multiple : MultipleOf (r .boundary) (row .header)
+  pub header-size : HeaderSize (valueIn HeaderSizeKey (countingIn (r .kind) es)) (row .header)
 
 -- ---- Blocks, and the whole file
 
@@ -86,16 +79,14 @@ pub record HasHeader (s : List ℕ) (start : ℕ) (h : Header) (ts : List Statem
   pub header : IsHeader s start h
   pub parse : Parse s h ts
 
--- "A block is a header, then an extent": a block with the row stands from `at` up to `next`. Its header is "a multiple of the
--- boundary".
+-- "A block is a header, then an extent": a block with the row stands from `at` up to `next`.
 pub record IsBlock (s : List ℕ) (r : FileRules) (at : ℕ) (row : Row) (next : ℕ) : Type 0 where
   pub header : Header
   pub statements : List Statement
   pub stands : HasHeader s at header statements
   pub starts : row .start ≡ at
   pub length-is : row .header ≡ header .length
-  pub multiple : (n : ℕ) × (header .length ≡ n * r .boundary)
-  pub describes : Describes r at (entries (bodyOf s header) statements) row
+  pub rules : KeepsRules r at (entries (bodyOf s header) statements) row
   pub ends : next ≡ at + row .header + row .size
   pub inside : next ≤ length s
 

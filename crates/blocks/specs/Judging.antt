@@ -1,7 +1,7 @@
 -- One block, as a function, with errors 9 to 12: by what its header says, its header's length, the file's length and the
 -- file's rules.
 use mathlib.Core.Bool.{Bool, true, false, cond, not, _&&_}
-use mathlib.Core.List.{List, []}
+use mathlib.Core.List.{List}
 use mathlib.Core.Option.{Option, none, some, Option·map}
 use Prim.Native.Nat.{ℕ, _+_, _%_}
 use lib.Dec.{eqb, leb}
@@ -13,7 +13,7 @@ use Rattle.text.specs.Number.{wholeNumber}
 use Rattle.header.specs.Entry.{Entry, bodyOf, entries, valueIn}
 use Rattle.header.specs.Frame.{headerAt}
 use Rattle.header.specs.Statements.{statementsOf}
-use Rattle.blocks.specs.Keys.{SizeKey, VersionKey, DataBlocksKey, BlockIDKey, BoundaryKey, HeaderSizeKey, BinarySizeKey, FileNameKey, first, second, isEdfKey, counting}
+use Rattle.blocks.specs.Keys.{VersionKey, DataBlocksKey, BlockIDKey, BoundaryKey, HeaderSizeKey, FileNameKey, first, second, isEdfKey, counting, countingIn, sizeValue}
 use Rattle.blocks.specs.Reading.{numberOr, isVersion, askedFor, Identity, identityOf}
 use Rattle.blocks.specs.declared.Accepted.{Accepted}
 use Rattle.blocks.specs.declared.FileRules.{FileRules}
@@ -63,15 +63,6 @@ roleOf r isFirst es =
     (Option·map (λ (i : Identity). record { kind = 1; identity = i }) (identityOf (first es .value)))
     none))
 
--- The data's length, by the file's kind.
-unfoldable pub dataLength : FileRules → List Entry → Option ℕ
-dataLength r es =
-    cond (eqb (r .kind) 1) (numberOr 0 0 (valueIn SizeKey es)) (numberOr 0 0 (valueIn BinarySizeKey (counting es)))
-
--- The entries that count: in kind 1 none.
-unfoldable pub countingIn : FileRules → List Entry → List Entry
-countingIn r es = cond (eqb (r .kind) 1) [] (counting es)
-
 -- ---- EDF_HeaderSize, where it counts
 
 unfoldable pub isWholeOrAbsent : Option (List ℕ) → Bool
@@ -106,10 +97,10 @@ rowWith start header size role =
 unfoldable pub judged : FileRules → Bool → ℕ → ℕ → ℕ → List Entry → Outcome Accepted
 judged r isFirst fileLength start header es = do
   role ← present (roleOf r isFirst es) 9 start
-  size ← present (dataLength r es) 9 start
-  require (isWholeOrAbsent (valueIn HeaderSizeKey (countingIn r es))) 9 start
-  require (isNone (valueIn FileNameKey (countingIn r es))) 10 start
-  require (eqb (header % r .boundary) 0 && isLengthOrAbsent header (valueIn HeaderSizeKey (countingIn r es))) 11 start
+  size ← present (numberOr 0 0 (sizeValue (r .kind) es)) 9 start
+  require (isWholeOrAbsent (valueIn HeaderSizeKey (countingIn (r .kind) es))) 9 start
+  require (isNone (valueIn FileNameKey (countingIn (r .kind) es))) 10 start
+  require (eqb (header % r .boundary) 0 && isLengthOrAbsent header (valueIn HeaderSizeKey (countingIn (r .kind) es))) 11 start
   require (leb (start + header + size) fileLength) 12 start
   ok (record { row = rowWith start header size role; next = start + header + size; rules = r })
 

@@ -1,10 +1,12 @@
 -- The keys that the rules for blocks name, as they stand after folding, and which of them count.
 use mathlib.Core.Bool.{Bool, cond}
 use mathlib.Core.List.{List, [], _∷_}
+use mathlib.Core.Option.{Option}
 use Prim.Native.Nat.{ℕ}
+use lib.Dec.{eqb}
 use lib.ListN.{getD, take}
 use Rattle.scan.specs.Byte.{ascii, same}
-use Rattle.header.specs.Entry.{Entry}
+use Rattle.header.specs.Entry.{Entry, valueIn}
 
 abbrev pub SizeKey : List ℕ
 SizeKey = ascii "size"
@@ -53,3 +55,12 @@ kindOf es = cond (isEdfKey (first es .key)) 2 1
 unfoldable pub counting : List Entry → List Entry
 counting [] = []
 counting (e ∷ es) = let r = counting es in cond (isEdfKey (e .key)) (e ∷ r) []
+
+-- The entries that count in a file of a kind: "In kind 1 all EDF_ keys are ignored".
+unfoldable pub countingIn : ℕ → List Entry → List Entry
+countingIn kind es = cond (eqb kind 1) [] (counting es)
+
+-- The value that gives the data's size: "In kind 1 .. the extent's length is Size .. In kind 2 the length is EDF_BinarySize ..
+-- and Size is ignored."
+unfoldable pub sizeValue : ℕ → List Entry → Option (List ℕ)
+sizeValue kind es = cond (eqb kind 1) (valueIn SizeKey es) (valueIn BinarySizeKey (counting es))

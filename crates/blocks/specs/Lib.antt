@@ -1,4 +1,5 @@
 pub mod Answers
+pub mod Cases
 pub mod Grammar
 pub mod IdentityText
 pub mod Keys

@@ -1,3 +1,4 @@
+pub mod Cases
 pub mod Entry
 pub mod Frame
 pub mod Grammar

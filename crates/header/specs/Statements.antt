@@ -11,7 +11,7 @@ use Rattle.scan.specs.Search.{firstFrom, is}
 use Rattle.scan.specs.declared.Found.{Found}
 use Rattle.scan.specs.declared.Found.the-variants.{At, Nothing}
 use Rattle.text.specs.Text.{every}
-use Rattle.text.specs.Whitespace.{whitespace}
+use Rattle.text.specs.Whitespace.{visible}
 use Rattle.header.specs.Entry.{bodyOf, key, trimmedLength}
 use Rattle.header.specs.declared.Header.{Header}
 use Rattle.header.specs.declared.Next.{Next}
@@ -19,9 +19,6 @@ use Rattle.header.specs.declared.Next.the-variants.{One, End, Malformed}
 use Rattle.header.specs.declared.Statement.{Statement}
 
 -- ---- 6: "non-white after the last `;`, no `=`, or an empty key"
-
-unfoldable pub visible : ℕ → Bool
-visible b = not (whitespace b)
 
 -- By the first offsets from `at` on of a visible byte, of `;` and of `=`.
 abbrev pub nextBy : ℕ → Found → Found → Found → Next
@@ -47,6 +44,19 @@ statementsWithin (suc n) s at = continued (statementAt s at) (λ next. statement
 -- All of them: no list of bytes holds more statements than bytes.
 unfoldable pub statementsFrom : List ℕ → ℕ → Option (List Statement)
 statementsFrom s at = statementsWithin (suc (length s)) s at
+
+-- The statements end to end from `at`, up to the first offset where none starts: all of them where the body is well formed.
+abbrev pub followed : Next → (ℕ → List Statement) → List Statement
+followed (One t) go = t ∷ go (suc (t .end))
+followed End go = []
+followed Malformed go = []
+
+unfoldable pub leadingWithin : ℕ → List ℕ → ℕ → List Statement
+leadingWithin zero s at = []
+leadingWithin (suc n) s at = followed (statementAt s at) (λ next. leadingWithin n s next)
+
+unfoldable pub leadingStatements : List ℕ → ℕ → List Statement
+leadingStatements s at = leadingWithin (suc (length s)) s at
 
 -- ---- 7: "key or value too long"
 

@@ -1,1 +1,3 @@
+pub mod Everys
+pub mod Numbers
 pub mod RoundTrip

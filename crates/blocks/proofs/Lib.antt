@@ -1,0 +1,11 @@
+pub mod BlockLaws
+pub mod Complete
+pub mod Declarations
+pub mod Identities
+pub mod IdentityLaws
+pub mod KeyErrors
+pub mod Roles
+pub mod Sound
+pub mod Steps
+pub mod ValueLaws
+pub mod VersionLaws

@@ -1,0 +1,9 @@
+pub mod FrameLaws
+pub mod FrameParts
+pub mod HeaderErrors
+pub mod KeyLaws
+pub mod Rules
+pub mod Spans
+pub mod StatementLaws
+pub mod Unambiguous
+pub mod Window
