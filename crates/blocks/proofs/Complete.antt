@@ -69,7 +69,7 @@ module _ (s : List ℕ) where
         first-header = c .first-header;
         blocks = c .blocks;
         some = c .some;
-        few = c .few;
+        few = omega (arith, c .few);
         identities = c .identities;
       } in
       let fuel : suc (256 - length rows) + length rows ≡ 257 = omega (arith, c .few) in

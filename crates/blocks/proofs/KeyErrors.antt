@@ -1,7 +1,7 @@
 -- What the keys of one header decide: `judged` gives a row exactly if the grammar's rules on keys are kept, and each of errors 9 to
 -- 12 exactly in its case.
 use mathlib.Core.Path.{_≡_, refl, sym, ap, _∙_}
-use mathlib.Core.Bool.{Bool, true, false, _&&_, false≢true}
+use mathlib.Core.Bool.{Bool, true, false, false≢true}
 use mathlib.Core.Logic.{_≢_, _⊎_}
 use mathlib.Core.List.{List}
 use mathlib.Core.Option.{Option, none, some}
@@ -18,7 +18,7 @@ use Rattle.text.specs.Number.{wholeNumber}
 use Rattle.header.specs.Entry.{Entry, valueIn}
 use Rattle.blocks.specs.Cases.{WholeOrAbsent, absent, whole, Readable, LengthKept, KeyError, rule-broken, file-name, bad-length, past-end}
 use Rattle.blocks.specs.Grammar.{MultipleOf, KeepsRules}
-use Rattle.blocks.specs.Judging.{Role, isWholeOrAbsent, isLengthOrAbsent, rowWith, roleOf, judged}
+use Rattle.blocks.specs.Judging.{Role, isWholeOrAbsent, isLengthOrAbsent, lengthAllowed, rowWith, roleOf, judged}
 use Rattle.blocks.specs.Keys.{FileNameKey, HeaderSizeKey, countingIn, sizeValue}
 use Rattle.blocks.specs.Reading.{numberOr}
 use Rattle.blocks.specs.Values.{HeaderSize}
@@ -62,8 +62,8 @@ size-decides n o =
     (λ e. rw e (Decides.fails (λ h. clash (isLengthOrAbsent n o) (size-complete h .1) e)))
 
 module _ (r : FileRules) {b : Bool} {start : ℕ} (rank : IsFirst b start) (end header : ℕ) (es : List Entry) where
-  length-decides : Decides (LengthKept r es header)
-      (eqb (header % r .boundary) 0 && isLengthOrAbsent header (valueIn HeaderSizeKey (countingIn (r .kind) es)))
+  length-decides : Decides (LengthKept r es header) (lengthAllowed r es header)
+  unfolding lengthAllowed
   length-decides =
       decides-by (λ h. record { multiple = h .0; header-size = h .1 }) (λ h. (h .multiple, h .header-size))
       (decides-and (multiple-decides (r .boundary) header) (size-decides header (valueIn HeaderSizeKey (countingIn (r .kind) es))))
@@ -100,7 +100,7 @@ module _ (r : FileRules) {b : Bool} {start : ℕ} (rank : IsFirst b start) (end 
         (λ f. rw (e, f) (rule-broken (λ row q. none-some (sym f ∙ number-complete (q .size)))))
         (λ size f. by-test (isWholeOrAbsent (valueIn HeaderSizeKey (countingIn (r .kind) es)))
         (λ w. by-test (isNone (valueIn FileNameKey (countingIn (r .kind) es)))
-        (λ n. by-test (eqb (header % r .boundary) 0 && isLengthOrAbsent header (valueIn HeaderSizeKey (countingIn (r .kind) es)))
+        (λ n. by-test (lengthAllowed r es header)
         (λ l. by-test (leb (start + header + size) end)
         (λ u. rw (e, f, w, n, l, u) (accepted role size (read role size e f w) (none-test _ n) (decided length-decides l) (leb-true _ _ u)))
         (λ u. rw (e, f, w, n, l, u)

@@ -1,11 +1,17 @@
+pub mod Answers
 pub mod BlockLaws
 pub mod Complete
+pub mod Countings
 pub mod Declarations
+pub mod Errors
 pub mod Identities
 pub mod IdentityLaws
 pub mod KeyErrors
+pub mod Main
+pub mod Prefix
 pub mod Roles
 pub mod Sound
 pub mod Steps
+pub mod Unambiguous
 pub mod ValueLaws
 pub mod VersionLaws

@@ -86,7 +86,7 @@ module _ (s : List ℕ) where
         first-header = p .first-header;
         blocks = p .blocks;
         some = p .some;
-        few = p .few;
+        few = omega (arith, p .few);
         identities = p .identities;
         count = decided (count-decides (r .expected) (length rows)) c;
       }))

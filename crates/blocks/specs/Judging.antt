@@ -78,6 +78,11 @@ unfoldable pub isLengthOrAbsent : ℕ → Option (List ℕ) → Bool
 isLengthOrAbsent n none = true
 isLengthOrAbsent n (some v) = isNumber n (wholeNumber v)
 
+-- 11: "length not a multiple, or not EDF_HeaderSize".
+unfoldable pub lengthAllowed : FileRules → List Entry → ℕ → Bool
+lengthAllowed r es header =
+    eqb (header % r .boundary) 0 && isLengthOrAbsent header (valueIn HeaderSizeKey (countingIn (r .kind) es))
+
 -- ---- The block
 
 abbrev pub rowWith : ℕ → ℕ → ℕ → Role → Row
@@ -93,14 +98,14 @@ rowWith start header size role =
     }
 
 -- By what its header says. 9: "a rule on EDF_ keys or Size broken, but for 10 to 15". 10: "EDF_BinaryFileName counts".
--- 11: "length not a multiple, or not EDF_HeaderSize". 12: "extent past the end".
+-- 12: "extent past the end".
 unfoldable pub judged : FileRules → Bool → ℕ → ℕ → ℕ → List Entry → Outcome Accepted
 judged r isFirst fileLength start header es = do
   role ← present (roleOf r isFirst es) 9 start
   size ← present (numberOr 0 0 (sizeValue (r .kind) es)) 9 start
   require (isWholeOrAbsent (valueIn HeaderSizeKey (countingIn (r .kind) es))) 9 start
   require (isNone (valueIn FileNameKey (countingIn (r .kind) es))) 10 start
-  require (eqb (header % r .boundary) 0 && isLengthOrAbsent header (valueIn HeaderSizeKey (countingIn (r .kind) es))) 11 start
+  require (lengthAllowed r es header) 11 start
   require (leb (start + header + size) fileLength) 12 start
   ok (record { row = rowWith start header size role; next = start + header + size; rules = r })
 

@@ -1,0 +1,101 @@
+-- The main theorems about the grammar, stated. Their proofs are in the files beside this one and in `header`.
+use mathlib.Core.Path.{_≡_}
+use mathlib.Core.Logic.{_↔_}
+use mathlib.Core.List.{List, map, List·Memᴰ}
+use Prim.Native.Nat.{ℕ, _+_, _≤_}
+use lib.ListN.{length, take}
+use Rattle.scan.specs.Outcome.{ok, failed}
+use Rattle.scan.specs.declared.Error.{Error}
+use Rattle.header.specs.Entry.{bodyOf, key}
+use Rattle.header.specs.Grammar.{IsHeader, Distinct, Parse}
+use Rattle.header.specs.declared.Header.{Header}
+use Rattle.header.specs.declared.Statement.{Statement}
+use Rattle.header.proofs.Spans.{InHeader}
+use Rattle.header.proofs.Spans
+use Rattle.header.proofs.Unambiguous as header
+use Rattle.blocks.specs.Cases.{Passed, FileError}
+use Rattle.blocks.specs.Grammar.{DistinctIdentities, Partition, Block, Cut}
+use Rattle.blocks.specs.Opening.{opened, openedFile}
+use Rattle.blocks.specs.declared.FileRules.{FileRules}
+use Rattle.blocks.specs.declared.Row.{Row}
+use Rattle.blocks.proofs.Answers.{opened-error, file-accepted}
+use Rattle.blocks.proofs.Complete
+use Rattle.blocks.proofs.Errors.{Bounded}
+use Rattle.blocks.proofs.Errors
+use Rattle.blocks.proofs.Prefix
+use Rattle.blocks.proofs.Sound
+use Rattle.blocks.proofs.Unambiguous.{RowHeader}
+use Rattle.blocks.proofs.Unambiguous
+
+module _ (s : List ℕ) where
+  -- ---- Unambiguous
+
+  -- At one offset at most one header stands, and it has one length.
+  pub one-header : {at : ℕ} {h g : Header} → IsHeader s at h → IsHeader s at g → h ≡ g
+  one-header = header.header-unique
+
+  -- Any two parses of one header are equal.
+  pub one-parse : {h : Header} {ts us : List Statement} → Parse s h ts → Parse s h us → ts ≡ us
+  one-parse = header.parse-unique
+
+  -- Any two partitions of one file are equal, with every field of every row.
+  pub one-partition : {rows others : List Row} → Partition s rows → Partition s others → rows ≡ others
+  one-partition = Unambiguous.partition-unique
+
+  -- And so are any two cuts, given by start, header length and data length alone.
+  pub one-cut : {blocks others : List Block} → Cut s blocks → Cut s others → blocks ≡ others
+  one-cut = Unambiguous.cut-unique
+
+  -- Every header of a partition has a parse.
+  pub has-parse : {rows : List Row} → Partition s rows → {row : Row} → List·Memᴰ row rows → RowHeader s row
+  has-parse = Unambiguous.row-header
+
+  -- ---- Sound and complete
+
+  -- Opening gives rows exactly if these are a partition of the file: its count of blocks, its rows, every field.
+  pub accepts : {rows : List Row} → (opened s ≡ ok rows) ↔ Partition s rows
+  accepts = (Sound.opened-sound s, Complete.opened-complete s)
+
+  -- So does the call, for a file of at most 1,073,741,824 bytes.
+  pub accepts-file : length s ≤ 1073741824 → {rows : List Row} → (openedFile s ≡ ok rows) ↔ Partition s rows
+  accepts-file = file-accepted s
+
+  -- A file has 1 to 256 blocks.
+  pub some-and-few : {rows : List Row} → Partition s rows → (1 ≤ length rows) × (length rows ≤ 256)
+  some-and-few c = (c .some, c .few)
+
+  -- A file that has no partition gets an error, with a code from 3 to 15.
+  pub refuses : ((rows : List Row) → Partition s rows → ⊥) → (e : Error) × (opened s ≡ failed e) × Bounded s e
+  refuses = opened-error s
+
+  -- Each code with its position is given exactly in its case: that of the first block that fails, as `FileError` states it.
+  pub errors : {e : Error} → (opened s ≡ failed e) ↔ FileError s e
+  errors = (Sound.error-sound s, Complete.error-complete s)
+
+  -- ---- Nothing is invented
+
+  -- Every row lies inside the file.
+  pub row-inside : {rows : List Row} → Partition s rows → {row : Row} → List·Memᴰ row rows → row .start + row .header + row .size ≤ length s
+  row-inside = Unambiguous.row-inside
+
+  -- Every position lies in the file or is its length.
+  pub error-inside : {e : Error} → FileError s e → Bounded s e
+  error-inside = Errors.error-bounded
+
+  -- A statement lies inside its header, and its value's span inside the statement.
+  pub statement-inside : {h : Header} {ts : List Statement} {t : Statement} → Parse s h ts → List·Memᴰ t ts → InHeader s h t
+  statement-inside = Spans.statement-in-header
+
+  -- ---- For later proofs
+
+  -- The blocks before an offset do not depend on what follows it.
+  pub blocks-before : (t : List ℕ) (n : ℕ) → take n s ≡ take n t → {r : FileRules} {rows : List Row} {at : ℕ} → at ≤ n
+      → Passed s r rows at → Passed t r rows at
+  blocks-before t n = Prefix.passed-local n s t
+
+  -- The keys of a header are distinct, and so are the identities of a file.
+  pub distinct-keys : {h : Header} {ts : List Statement} → Parse s h ts → Distinct (map (key (bodyOf s h)) ts)
+  distinct-keys p = p .distinct
+
+  pub distinct-identities : {rows : List Row} → Partition s rows → DistinctIdentities rows
+  distinct-identities c = c .identities
