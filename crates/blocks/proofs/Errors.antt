@@ -6,7 +6,7 @@ use native.Mathlib.Omega.{arith}
 use lib.ListN.{length}
 use Rattle.scan.specs.declared.Error.{Error}
 use Rattle.scan.proofs.Chains.{chain-inside}
-use Rattle.header.specs.Cases.{FrameError, no-start, bad-byte, no-end, StatementsError, no-statements, too-long, key-twice}
+use Rattle.header.specs.Cases.{FrameError, no-start, bad-byte, no-end, StatementsError, malformed, too-long, key-twice}
 use Rattle.header.specs.Entry.{Entry}
 use Rattle.header.specs.declared.Header.{Header}
 use Rattle.blocks.specs.Cases.{KeyError, rule-broken, file-name, bad-length, past-end, BlockError, in-frame, in-statements, no-rules, in-keys, Passed, FileError, first-block, later-block, identity-twice, too-many, wrong-count}
@@ -28,7 +28,7 @@ module _ {s : List ℕ} where
     frame-bounded (no-end n) = omega arith
 
     statements-bounded : {h : Header} {e : Error} → StatementsError s h start e → Bounded s e
-    statements-bounded (no-statements n) = omega arith
+    statements-bounded (malformed n) = omega arith
     statements-bounded (too-long l) = omega arith
     statements-bounded (key-twice k) = omega arith
 

@@ -4,12 +4,12 @@ use mathlib.Core.List.{List}
 use Prim.Native.Nat.{ℕ}
 use Rattle.scan.specs.Outcome.{failed}
 use Rattle.scan.specs.declared.Error.{Error}
-use Rattle.header.specs.Cases.{FrameError, no-start, bad-byte, no-end, StatementsError, no-statements, too-long, key-twice}
+use Rattle.header.specs.Cases.{FrameError, no-start, bad-byte, no-end, StatementsError, malformed, too-long, key-twice}
 use Rattle.header.specs.Frame.{headerAt}
 use Rattle.header.specs.Statements.{statementsOf}
 use Rattle.header.specs.declared.Header.{Header}
 use Rattle.header.proofs.FrameLaws.{header-says, no-start-answer, bad-byte-answer, no-end-answer}
-use Rattle.header.proofs.StatementLaws.{statements-says, no-statements-answer, too-long-answer, key-twice-answer}
+use Rattle.header.proofs.StatementLaws.{statements-says, malformed-answer, too-long-answer, key-twice-answer}
 
 -- The frame: 3, 4 and 5.
 module _ (s : List ℕ) (at : ℕ) where
@@ -27,6 +27,6 @@ module _ (s : List ℕ) (at : ℕ) (h : Header) where
   statements-error q = rw q at (statements-says s at h)
 
   pub statements-error-complete : {e : Error} → StatementsError s h at e → statementsOf s at h ≡ failed e
-  statements-error-complete (no-statements n) = no-statements-answer s at h n
+  statements-error-complete (malformed b) = malformed-answer s at h b
   statements-error-complete (too-long l) = too-long-answer s at h l
   statements-error-complete (key-twice k) = key-twice-answer s at h k

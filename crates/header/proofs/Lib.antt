@@ -2,6 +2,7 @@ pub mod FrameLaws
 pub mod FrameParts
 pub mod HeaderErrors
 pub mod KeyLaws
+pub mod OneStatement
 pub mod Prefix
 pub mod Rules
 pub mod Spans

@@ -1,112 +1,31 @@
 -- `statementsOf` answers the parse of the grammar exactly if there is one, and else the error of its case.
-use mathlib.Core.Path.{_≡_, refl, ap}
+use mathlib.Core.Path.{_≡_, refl, sym, ap}
 use mathlib.Core.List.{List, [], _∷_, map}
-use mathlib.Core.Option.{Option, some, Option·map}
+use mathlib.Core.Option.{Option, none, some, Option·map}
 use Prim.Native.Nat.{ℕ, zero, suc, _+_, _≤_, _<_}
-use native.Mathlib.Nat.{le-of-lt}
 use native.Mathlib.Omega.{arith}
-use borrow.Author.Tests.{eqb-true, eqb-false, lt-ltb, le-ltb, not-true, not-false}
 use lib.ListN.{length}
-use Rattle.scan.specs.Byte.{byte}
 use Rattle.scan.specs.Chain.{Chain}
-use Rattle.scan.specs.First.{First}
 use Rattle.scan.specs.Outcome.{Outcome, ok, failed, refused}
-use Rattle.scan.specs.Search.{firstFrom, is}
-use Rattle.scan.specs.declared.Found.{Found}
-use Rattle.scan.specs.declared.Found.the-variants.{At, Nothing}
-use Rattle.scan.proofs.Cases.{by-test, by-order, clash}
+use Rattle.scan.specs.Search.{is}
+use Rattle.scan.proofs.Cases.{by-test, none-some}
 use Rattle.scan.proofs.Chains.{chain-unique}
 use Rattle.scan.proofs.Decides.{decided, refuted, passes, rejects}
 use Rattle.scan.proofs.Finds.{Finds, found, missing, by-finds, finds-some, finds-none}
-use Rattle.scan.proofs.Searches.{FoundSays, search-says, first-unique}
 use Rattle.text.specs.Text.{every}
-use Rattle.text.specs.Whitespace.{whitespace, visible}
-use Rattle.header.specs.Cases.{Statements, NoStatements, TooLong, KeyTwice, StatementsError}
+use Rattle.header.specs.Cases.{Statements, Broken, BrokenBody, TooLong, KeyTwice, StatementsError}
 use Rattle.header.specs.Entry.{bodyOf, key}
-use Rattle.header.specs.Grammar.{IsStatement, StatementFrom, OnlyWhitespace, Parse}
-use Rattle.header.specs.Statements.{nextBy, statementAt, continued, statementsWithin, statementsFrom}
+use Rattle.header.specs.Grammar.{StatementFrom, OnlyWhitespace, Parse}
+use Rattle.header.specs.Statements.{statementAt, continued, statementsWithin, statementsFrom}
 use Rattle.header.specs.Statements.{isShort, areDistinct, statementsOf}
 use Rattle.header.specs.declared.Header.{Header}
 use Rattle.header.specs.declared.Next.{Next}
 use Rattle.header.specs.declared.Next.the-variants.{One, End, Malformed}
 use Rattle.header.specs.declared.Statement.{Statement}
-use Rattle.header.proofs.KeyLaws.{visible-key, whitespace-key}
+use Rattle.header.proofs.OneStatement.{NextSays, statement-says, fault-dark, fault-none}
 use Rattle.header.proofs.Rules.{all-short-decides, one-long, distinct-decides}
-use Rattle.header.proofs.Unambiguous.{equals-first, end-first}
+use Rattle.header.proofs.Unambiguous.{end-first}
 use Rattle.header.proofs.Unambiguous.{statement-unique, not-only-whitespace, statements-sure}
-
--- ---- One statement
-
--- What an answer of `statementAt` says.
-abbrev pub NextSays : List ℕ → ℕ → Next → Type 0
-NextSays s at (One t) = StatementFrom s at t (suc (t .end))
-NextSays s at End = OnlyWhitespace s at
-NextSays s at Malformed = (OnlyWhitespace s at → ⊥) × ((t : Statement) (next : ℕ) → StatementFrom s at t next → ⊥)
-
-module _ (s : List ℕ) (at : ℕ) where
-  not-only : {d : ℕ} → First visible s at d → OnlyWhitespace s at → ⊥
-  unfolding visible
-  not-only {d} D w = clash (whitespace (byte s d)) (w d (D .from) (D .inside)) (not-true _ (D .here))
-
-  only : FoundSays visible s at Nothing → OnlyWhitespace s at
-  unfolding visible
-  only D k l u = not-false (whitespace (byte s k)) (D k l u)
-
-  -- The `=` and the `;` of a statement from here are the first.
-  equals-from : {t : Statement} {n : ℕ} → StatementFrom s at t n → First (is 61) s at (t .equals)
-  equals-from h = rw (h .starts) at (equals-first s (h .is))
-
-  end-from : {t : Statement} {n : ℕ} → StatementFrom s at t n → First (is 59) s at (t .end)
-  end-from h = rw (h .starts) at (end-first s (h .is))
-
-  module _ (d f e : ℕ) (D : First visible s at d) (F : First (is 59) s at f) (E : First (is 61) s at e) where
-    abbrev candidate : Statement
-    candidate = record { first = at; equals = e; end = f }
-
-    good : d < e → e < f → IsStatement s candidate
-    good de ef = record {
-      key-first = E .from;
-      key-plain = λ k l u. (eqb-false _ _ (E .before k l u), eqb-false _ _ (F .before k l (omega arith)));
-      equals-is = eqb-true _ _ (E .here);
-      value-after = ef;
-      value-plain = λ k l u. eqb-false _ _ (F .before k (omega (arith, E .from)) u);
-      end-is = eqb-true _ _ (F .here);
-      key-some = visible-key s candidate (le-of-lt (E .inside)) d (D .from) de (D .here);
-    }
-
-    -- A statement from here has a visible byte before its `=`, and its `;` after that.
-    ordered : (u : Statement) (n : ℕ) → StatementFrom s at u n → (d < e) × (e < f)
-    ordered u n h =
-        let q : u .equals ≡ e = first-unique (is 61) s (equals-from h) E in
-        let r : u .end ≡ f = first-unique (is 59) s (end-from h) F in
-        let k : ¬ (e ≤ d) = λ ed. omega (
-          arith,
-          h .is .key-some,
-          whitespace-key s u (le-of-lt (equals-from h .inside))
-              (λ j l v. D .before j (omega (arith, h .starts)) (omega arith)),
-        ) in
-        (omega arith, omega (arith, h .is .value-after))
-
-    three : NextSays s at (nextBy at (At d) (At f) (At e))
-    three =
-        by-order e d (λ ed. rw (le-ltb d e ed) (not-only D, λ u n h. omega (arith, ordered u n h)))
-        (λ de. by-order f e (λ fe. rw (lt-ltb d e de, le-ltb e f fe) (not-only D, λ u n h. omega (arith, ordered u n h)))
-        (λ ef. rw (lt-ltb d e de, lt-ltb e f ef) (record { starts = refl; is = good de ef; ends = refl })))
-
-  by-found : (d f e : Found) → FoundSays visible s at d → FoundSays (is 59) s at f → FoundSays (is 61) s at e
-      → NextSays s at (nextBy at d f e)
-  by-found Nothing f e D F E = only D
-  by-found (At d) Nothing e D F E =
-      (not-only D, λ t n h. let z = end-from h in clash _ (z .here) (F (t .end) (z .from) (z .inside)))
-  by-found (At d) (At f) Nothing D F E =
-      (not-only D, λ t n h. let z = equals-from h in clash _ (z .here) (E (t .equals) (z .from) (z .inside)))
-  by-found (At d) (At f) (At e) D F E = three d f e D F E
-
-  pub statement-says : NextSays s at (statementAt s at)
-  unfolding statementAt
-  statement-says =
-      by-found (firstFrom visible s at) (firstFrom (is 59) s at) (firstFrom (is 61) s at)
-      (search-says visible s at) (search-says (is 59) s at) (search-says (is 61) s at)
 
 -- ---- All statements
 
@@ -136,8 +55,8 @@ module _ (s : List ℕ) where
   finds-continued at Malformed go h more = missing none-here
     where
       none-here : (ts : List Statement) → EndToEnd at ts → ⊥
-      none-here [] w = h .0 w
-      none-here (t ∷ ts) c = h .1 t (c .0) (c .1)
+      none-here [] w = fault-dark s at h w
+      none-here (t ∷ ts) c = fault-none s at h (c .1)
 
   finds-within : (n at : ℕ) → length s ≤ at + n → Finds (EndToEnd at) (statementsWithin (suc n) s at)
   unfolding statementsWithin
@@ -149,6 +68,47 @@ module _ (s : List ℕ) where
   pub finds-statements : (at : ℕ) → Finds (EndToEnd at) (statementsFrom s at)
   unfolding statementsFrom
   finds-statements at = finds-within (length s) at (omega arith)
+
+  -- Where it finds none, they break off.
+  broken-more : {at : ℕ} {t : Statement} → StatementFrom s at t (suc (t .end)) → Broken s (suc (t .end)) → Broken s at
+  broken-more {t = t} h b = record {
+    statements = t ∷ b .statements;
+    end = b .end;
+    before = (suc (t .end), h, b .before);
+    fault = b .fault;
+  }
+
+  continued-broken : (at : ℕ) (next : Next) (go : ℕ → Option (List Statement)) → NextSays s at next
+      → ((k : ℕ) → at < k → k ≤ length s → go k ≡ none → Broken s k) → continued next go ≡ none → Broken s at
+  continued-broken at (One t) go h more e =
+      let l = statement-inside h in
+      broken-more h (more (suc (t .end)) (omega (arith, l)) (l .1) (map-none (go (suc (t .end))) e))
+    where
+      map-none : (o : Option (List Statement)) → Option·map (λ (ts : List Statement). t ∷ ts) o ≡ none → o ≡ none
+      map-none none q = refl
+      map-none (some ts) q = absurd (none-some (sym q))
+  continued-broken at End go h more e = absurd (none-some (sym e))
+  continued-broken at Malformed go h more e = record { statements = []; end = at; before = refl; fault = h }
+
+  within-broken : (n at : ℕ) → length s ≤ at + n → statementsWithin (suc n) s at ≡ none → Broken s at
+  unfolding statementsWithin
+  within-broken zero at h e = continued-broken at (statementAt s at) _ (statement-says s at) (λ k l u q. absurd (omega arith)) e
+  within-broken (suc n) at h e =
+      continued-broken at (statementAt s at) _ (statement-says s at) (λ k l u q. within-broken n k (omega arith) q) e
+
+  pub statements-broken : (at : ℕ) → statementsFrom s at ≡ none → Broken s at
+  unfolding statementsFrom
+  statements-broken at e = within-broken (length s) at (omega arith) e
+
+  -- And where they break off, no others stand.
+  pub broken-none : {at : ℕ} → Broken s at → (us : List Statement) → EndToEnd at us → ⊥
+  broken-none {at} b us c = go at (b .statements) us (b .before) c
+    where
+      go : (at : ℕ) (ts us : List Statement) → Chain (StatementFrom s) (λ k. k ≡ b .end) at ts → EndToEnd at us → ⊥
+      go at [] [] q w = fault-dark s (b .end) (b .fault) (rw q at w)
+      go at [] (u ∷ us) q d = fault-none s (b .end) (b .fault) (rw q at (d .1))
+      go at (t ∷ ts) [] d w = not-only-whitespace s (d .1) w
+      go at (t ∷ ts) (u ∷ us) d f = go (d .0) ts us (d .2) (rw (statement-unique s (d .1) (f .1) .1) (f .2))
 
   -- Any count that is large enough gives the same,
   continued-same : (at : ℕ) (next : Next) (go on : ℕ → Option (List Statement)) → NextSays s at next
@@ -199,12 +159,12 @@ module _ (s : List ℕ) (at : ℕ) (h : Header) where
       (λ f. let l = one-long body ts f in
       rw f (StatementsError.too-long
       (record { statements = ts; shape = c; statement = l .0; member = l .1; long = l .2 })))))
-      (λ e n. rw e (StatementsError.no-statements n))
+      (λ e n. rw e (StatementsError.malformed (statements-broken body (suc (h .left)) e)))
 
   -- Each case has its answer.
-  pub no-statements-answer : NoStatements s h → statementsOf s at h ≡ refused 6 at
+  pub malformed-answer : BrokenBody s h → statementsOf s at h ≡ refused 6 at
   unfolding statementsOf
-  no-statements-answer n = rw (finds-none (finds-statements body (suc (h .left))) n)
+  malformed-answer b = rw (finds-none (finds-statements body (suc (h .left))) (broken-none body b))
 
   shape-is : (ts : List Statement) → Statements s h ts → statementsFrom body (suc (h .left)) ≡ some ts
   shape-is ts c =

@@ -2,6 +2,7 @@
 -- header is read.
 use mathlib.Core.Path.{_≡_}
 use mathlib.Core.Logic.{_≢_, _⊎_}
+use mathlib.Core.Bool.{true}
 use mathlib.Core.List.{List, map, List·Memᴰ}
 use Prim.Native.Nat.{ℕ, suc, _+_, _≤_, _<_}
 use lib.ListN.{length}
@@ -9,6 +10,7 @@ use Rattle.scan.specs.Byte.{byte}
 use Rattle.scan.specs.Chain.{Chain}
 use Rattle.scan.specs.Outcome.{errorAt}
 use Rattle.scan.specs.declared.Error.{Error}
+use Rattle.text.specs.Whitespace.{whitespace}
 use Rattle.header.specs.Entry.{bodyOf, key}
 use Rattle.header.specs.Grammar.{StartPattern, EndPattern, StatementFrom, OnlyWhitespace, Short, Distinct}
 use Rattle.header.specs.declared.Header.{Header}
@@ -58,14 +60,30 @@ pub data FrameError (s : List ℕ) (start : ℕ) : Error → Type 0 where
 
 -- ---- The statements
 
+-- What is wrong at an offset of a body from which neither a statement stands nor only whitespace.
+pub data Fault (s : List ℕ) (at : ℕ) : Type 0 where
+  -- "non-white after the last `;`"
+  tail : (OnlyWhitespace s at → ⊥) → ((k : ℕ) → at ≤ k → k < length s → byte s k ≢ 59) → Fault s at
+  -- "no `=`" up to the next `;`, at f
+  no-equals : {f : ℕ} → at ≤ f → byte s f ≡ 59 → ((k : ℕ) → at ≤ k → k < f → (byte s k ≢ 61) × (byte s k ≢ 59)) → Fault s at
+  -- "an empty key": only whitespace before the `=`, at e
+  empty-key : {e : ℕ} → at ≤ e → byte s e ≡ 61 → ((k : ℕ) → at ≤ k → k < e → whitespace (byte s k) ≡ true) → Fault s at
+
+-- Statements stand end to end from `at`, and after them something is wrong.
+pub record Broken (s : List ℕ) (at : ℕ) : Type 0 where
+  pub statements : List Statement
+  pub end : ℕ
+  pub before : Chain (StatementFrom s) (λ k. k ≡ end) at statements
+  pub fault : Fault s end
+
 module _ (s : List ℕ) (h : Header) where
   -- Statements "end to end from the body's first byte, then only white."
   abbrev pub Statements : List Statement → Type 0
   Statements ts = Chain (StatementFrom (bodyOf s h)) (OnlyWhitespace (bodyOf s h)) (suc (h .left)) ts
 
-  -- 6: "non-white after the last `;`, no `=`, or an empty key". No list of statements stands so.
-  abbrev pub NoStatements : Type 0
-  NoStatements = (ts : List Statement) → Statements ts → ⊥
+  -- 6: "non-white after the last `;`, no `=`, or an empty key".
+  abbrev pub BrokenBody : Type 0
+  BrokenBody = Broken (bodyOf s h) (suc (h .left))
 
   -- 7: "key or value too long".
   pub record TooLong : Type 0 where
@@ -84,6 +102,6 @@ module _ (s : List ℕ) (h : Header) where
 
   -- An error of the statements of the header, which stands at `start`, in its case.
   pub data StatementsError (start : ℕ) : Error → Type 0 where
-    no-statements : NoStatements → StatementsError start (errorAt 6 start)
+    malformed : BrokenBody → StatementsError start (errorAt 6 start)
     too-long : TooLong → StatementsError start (errorAt 7 start)
     key-twice : KeyTwice → StatementsError start (errorAt 8 start)
