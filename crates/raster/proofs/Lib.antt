@@ -1,2 +1,4 @@
 pub mod Elements
+pub mod OrderLaws
 pub mod Orders
+pub mod Positions
