@@ -18,7 +18,8 @@ use Rattle.scan.proofs.Seams.{first-seam}
 use Rattle.scan.proofs.Searches.{search-is}
 use Rattle.text.specs.Number.{wholeNumber}
 use Rattle.text.proofs.Numbers.{whole-plain}
-use Rattle.blocks.specs.Reading.{afterPrefix, Identity, memoryOf, identityBy, instanceBy, imageBy, pointBy, identityOf}
+use Rattle.blocks.specs.Reading.{afterPrefix, memoryOf, identityBy, instanceBy, imageBy, pointBy, identityOf}
+use Rattle.blocks.specs.declared.Identity.{Identity}
 use Rattle.blocks.specs.Values.{Instance, Memory, IsIdentity}
 use Rattle.blocks.proofs.ValueLaws.{least-sound, least-complete}
 

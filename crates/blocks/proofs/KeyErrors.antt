@@ -18,7 +18,8 @@ use Rattle.text.specs.Number.{wholeNumber}
 use Rattle.header.specs.Entry.{Entry, valueIn}
 use Rattle.blocks.specs.Cases.{WholeOrAbsent, absent, whole, Readable, LengthKept, KeyError, rule-broken, file-name, bad-length, past-end}
 use Rattle.blocks.specs.Grammar.{MultipleOf, KeepsRules}
-use Rattle.blocks.specs.Judging.{Role, isWholeOrAbsent, isLengthOrAbsent, lengthAllowed, rowWith, roleOf, judged}
+use Rattle.blocks.specs.Judging.{isWholeOrAbsent, isLengthOrAbsent, lengthAllowed, rowWith, roleOf, judged}
+use Rattle.blocks.specs.declared.Role.{Role}
 use Rattle.blocks.specs.Keys.{FileNameKey, HeaderSizeKey, countingIn, sizeValue}
 use Rattle.blocks.specs.Reading.{numberOr}
 use Rattle.blocks.specs.Values.{HeaderSize}

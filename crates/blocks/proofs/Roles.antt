@@ -12,7 +12,8 @@ use Rattle.scan.proofs.Cases.{by-test, by-option, none-some}
 use Rattle.scan.proofs.Decides.{decided, same-decides}
 use Rattle.header.specs.Entry.{Entry}
 use Rattle.blocks.specs.Grammar.{NoIdentity, HasRole, plain-block, general-block, data-block}
-use Rattle.blocks.specs.Judging.{Role, unnamed, roleOf, rowWith}
+use Rattle.blocks.specs.Judging.{unnamed, roleOf, rowWith}
+use Rattle.blocks.specs.declared.Role.{Role}
 use Rattle.blocks.specs.Keys.{BlockIDKey, first}
 use Rattle.blocks.specs.Reading.{identityOf}
 use Rattle.blocks.specs.declared.FileRules.{FileRules}

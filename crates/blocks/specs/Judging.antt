@@ -14,9 +14,11 @@ use Rattle.header.specs.Entry.{Entry, bodyOf, entries, valueIn}
 use Rattle.header.specs.Frame.{headerAt}
 use Rattle.header.specs.Statements.{statementsOf}
 use Rattle.blocks.specs.Keys.{VersionKey, DataBlocksKey, BlockIDKey, BoundaryKey, HeaderSizeKey, FileNameKey, first, second, isEdfKey, counting, countingIn, sizeValue}
-use Rattle.blocks.specs.Reading.{numberOr, isVersion, askedFor, Identity, identityOf}
+use Rattle.blocks.specs.Reading.{numberOr, isVersion, askedFor, identityOf}
 use Rattle.blocks.specs.declared.Accepted.{Accepted}
 use Rattle.blocks.specs.declared.FileRules.{FileRules}
+use Rattle.blocks.specs.declared.Identity.{Identity}
+use Rattle.blocks.specs.declared.Role.{Role}
 use Rattle.blocks.specs.declared.Row.{Row}
 
 -- ---- The rules that the first header gives the file
@@ -46,11 +48,7 @@ rulesOf es =
 
 -- ---- What a header says of its block
 
--- The kind of a block and its identity.
-pub record Role : Type 0 where
-  pub kind : ℕ
-  pub identity : Identity
-
+-- A block with no identity.
 abbrev pub unnamed : ℕ → Role
 unnamed kind = record { kind = kind; identity = record { sequence = pos 0; instance = 0; memory = pos 0 } }
 

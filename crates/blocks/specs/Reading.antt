@@ -10,6 +10,7 @@ use Rattle.scan.specs.Byte.{byte, ascii, same}
 use Rattle.scan.specs.Search.{firstFrom, positionOf, is}
 use Rattle.text.specs.Number.{digit, wholeNumber}
 use Rattle.text.specs.Text.{every}
+use Rattle.blocks.specs.declared.Identity.{Identity}
 
 -- A whole number that is at least `least`.
 abbrev pub atLeast : ℕ → Option ℤ → Option ℕ
@@ -36,11 +37,6 @@ askedFor v = cond (same v (ascii "Undetermined")) (some 1) (atLeast 1 (wholeNumb
 -- What follows a prefix, where it stands in front.
 unfoldable pub afterPrefix : List ℕ → List ℕ → Option (List ℕ)
 afterPrefix p v = cond (same (take (length p) v) p) (some (drop (length p) v)) none
-
-pub record Identity : Type 0 where
-  pub sequence : ℤ
-  pub instance : ℕ
-  pub memory : ℤ
 
 -- What follows the instance: nothing, or a point and the memory.
 unfoldable pub memoryOf : List ℕ → Option ℕ

@@ -14,6 +14,19 @@ pub struct Row {
     pub memory: i64,
 }
 
+// The identity of a data block of kind 2.
+pub struct Identity {
+    pub sequence: i64,
+    pub instance: u8,
+    pub memory: i64,
+}
+
+// What a header says its block is: its kind, and its identity or zeros.
+pub struct Role {
+    pub kind: u8,
+    pub identity: Identity,
+}
+
 // What the first header says of the whole file: its kind, 1 or 2; the boundary of headers; and how many data blocks the
 // general header asks for, 0 where there is no general header.
 pub struct FileRules {
