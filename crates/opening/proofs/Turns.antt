@@ -1,0 +1,95 @@
+-- A turn of the loop that opens a file, on plain values. The loop's rows are an array of which the first `count` count.
+use mathlib.Core.Path.{_≡_, refl, sym, ap, _∙_}
+use mathlib.Core.Bool.{Bool, true, false}
+use mathlib.Core.Logic.{_≢_}
+use mathlib.Core.List.{List, [], _∷_, _++_}
+use Prim.Native.Nat.{ℕ, suc, _+_, _-_, _≤_, _<_}
+use native.Mathlib.Numerals.{add-one}
+use native.Mathlib.Omega.{arith}
+use borrow.Author.Tests.{eqb-true, eqb-false}
+use lib.Dec.{eqb}
+use lib.ListN.{length, take, set}
+use lib.Seq.{take-suc-set, length-take-le}
+use Rattle.scan.specs.Outcome.{Outcome, ok, failed, refused, errorAt}
+use Rattle.scan.specs.declared.Error.{Error}
+use Rattle.scan.proofs.Cases.{by-test, by-outcome}
+use Rattle.blocks.specs.Judging.{blockAt}
+use Rattle.blocks.specs.Opening.{ended, countMatches, repeats, openedFrom}
+use Rattle.blocks.specs.declared.Accepted.{Accepted}
+use Rattle.blocks.specs.declared.FileRules.{FileRules}
+use Rattle.blocks.specs.declared.Row.{Row}
+use Rattle.blocks.proofs.Steps.{step-done, step-count, step-full, step-failed, step-twice, step-on}
+use Rattle.opening.specs.Core.{stepBy, stepOf}
+use Rattle.opening.specs.declared.Step.{Step}
+use Rattle.opening.specs.declared.Step.the-variants.{Block, Done, Failed}
+
+-- ---- A step, with the tests that led to it
+
+pub data StepIs (s : List ℕ) (count at : ℕ) (r : FileRules) : Step → Type 0 where
+  done : ended count at (length s) ≡ true → countMatches (r .expected) count ≡ true → StepIs s count at r Done
+  miscounted : ended count at (length s) ≡ true → countMatches (r .expected) count ≡ false → StepIs s count at r (Failed (errorAt 15 0))
+  full : ended count at (length s) ≡ false → count ≡ 256 → StepIs s count at r (Failed (errorAt 14 at))
+  block : {a : Accepted} → ended count at (length s) ≡ false → count ≢ 256 → blockAt s r (eqb count 0) at ≡ ok a → StepIs s count at r (Block a)
+  broken : {e : Error} → ended count at (length s) ≡ false → count ≢ 256 → blockAt s r (eqb count 0) at ≡ failed e
+      → StepIs s count at r (Failed e)
+
+pub step-is : (s : List ℕ) (count at : ℕ) (r : FileRules) → StepIs s count at r (stepOf s count at r)
+unfolding stepOf
+step-is s count at r =
+    by-test (ended count at (length s))
+    (λ e. by-test (countMatches (r .expected) count) (λ c. rw (e, c) (done e c)) (λ c. rw (e, c) (miscounted e c)))
+    (λ e. by-test (eqb count 256)
+    (λ f. rw (e, f) (full e (eqb-true count 256 f)))
+    (λ f. by-outcome (blockAt s r (eqb count 0) at)
+    (λ a b. rw (e, f, b) (block e (eqb-false count 256 f) b))
+    (λ x b. rw (e, f, b) (broken e (eqb-false count 256 f) b))))
+
+-- ---- A turn
+
+-- The answer from where the loop stands.
+abbrev pub answerFrom : List ℕ → List Row → ℕ → ℕ → FileRules → Outcome (List Row)
+answerFrom s rows count at r = openedFrom (257 - count) s (take count rows) at r
+
+module _ (s : List ℕ) (rows : List Row) (count at : ℕ) (r : FileRules) (few : count ≤ 256) (whole : length rows ≡ 256) where
+  counted : length (take count rows) ≡ count
+  counted = length-take-le count rows (omega arith)
+
+  fuel : 257 - count ≡ suc (256 - count)
+  fuel = omega arith
+
+  -- What a step makes of it.
+  abbrev pub Turned : Step → Type 0
+  Turned Done = answerFrom s rows count at r ≡ ok (take count rows)
+  Turned (Failed e) = answerFrom s rows count at r ≡ failed e
+  Turned (Block a) =
+      (repeats (take count rows) (a .row) ≡ true → answerFrom s rows count at r ≡ refused 13 at)
+      × (repeats (take count rows) (a .row) ≡ false → answerFrom s rows count at r ≡ answerFrom s (set rows count (a .row)) (count + 1) (a .next) (a .rules))
+
+  turned : (x : Step) → StepIs s count at r x → Turned x
+  turned x (done e c) = rw fuel (step-done (256 - count) s (take count rows) at r (rw counted e) (rw counted c))
+  turned x (miscounted e c) = rw fuel (step-count (256 - count) s (take count rows) at r (rw counted e) (rw counted c))
+  turned x (full e f) = rw fuel (step-full (256 - count) s (take count rows) at r (rw counted e) (rw counted f))
+  turned x (broken e f b) =
+      rw fuel (step-failed (256 - count) s (take count rows) at r (rw counted e) (rw counted f) (rw counted b))
+  turned x (block {a = a} e f b) =
+      let next : 257 - (count + 1) ≡ 256 - count = omega arith in
+      let here : blockAt s r (eqb (length (take count rows)) 0) at ≡ ok a = rw counted b in
+      (
+        (λ t. rw fuel (step-twice (256 - count) s (take count rows) at r (rw counted e) (rw counted f) here t)),
+        (λ t. rw (fuel, next, add-one count, take-suc-set rows count (a .row) (omega arith))
+        (step-on (256 - count) s (take count rows) at r (rw counted e) (rw counted f) here t)),
+      )
+
+  pub turn : Turned (stepOf s count at r)
+  turn = turned (stepOf s count at r) (step-is s count at r)
+
+-- After a block fewer than 256 stand before it, and the next offset lies inside the file.
+pub block-before : (s : List ℕ) (count at : ℕ) (r : FileRules) (a : Accepted) → stepOf s count at r ≡ Block a → count ≢ 256
+block-before s count at r a q = go (stepOf s count at r) (step-is s count at r) q
+  where
+    go : (x : Step) → StepIs s count at r x → x ≡ Block a → count ≢ 256
+    go x (done e c) p = absurd (let z : _≡_ {A = ℕ} 0 1 = cc in omega arith)
+    go x (miscounted e c) p = absurd (let z : _≡_ {A = ℕ} 0 1 = cc in omega arith)
+    go x (full e f) p = absurd (let z : _≡_ {A = ℕ} 0 1 = cc in omega arith)
+    go x (broken e f b) p = absurd (let z : _≡_ {A = ℕ} 0 1 = cc in omega arith)
+    go x (block e f b) p = f

@@ -1,0 +1,19 @@
+// Opening a file: block by block, the rows in an array of this function.
+use blocks::Accepted;
+use blocks::FileRules;
+use blocks::Opened;
+use blocks::Row;
+use scan::Error;
+
+// What comes next: a block more, the end of the file, or an error.
+pub enum Step {
+    Block(Accepted),
+    Done,
+    Failed(Error),
+}
+
+// A file that was opened: its rows, of which the answer says how many count.
+pub struct Opening {
+    pub rows: [Row; 256],
+    pub answer: Opened,
+}
