@@ -1,5 +1,6 @@
 pub mod FrameLaws
 pub mod FrameParts
+pub mod FrameSteps
 pub mod HeaderErrors
 pub mod KeyLaws
 pub mod OneStatement

@@ -1,4 +1,7 @@
 // A header: its frame, its statements, its keys.
+pub mod frame;
+
+use scan::Error;
 
 // A header that stands at some offset: the offsets of its `{` and `}`, and its length from the first byte of its start
 // pattern to the last of its end pattern.
@@ -20,4 +23,10 @@ pub enum Next {
     One(Statement),
     End,
     Malformed,
+}
+
+// The answer of a search for a header: where it stands, or why none does.
+pub enum Framed {
+    At(Header),
+    Failed(Error),
 }
