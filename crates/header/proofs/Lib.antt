@@ -1,10 +1,14 @@
 pub mod FrameLaws
 pub mod FrameParts
 pub mod FrameSteps
+pub mod HashLaws
 pub mod HeaderErrors
 pub mod KeyLaws
+pub mod Leading
+pub mod LookupLaws
 pub mod OneStatement
 pub mod Prefix
+pub mod RepeatLaws
 pub mod Rules
 pub mod Spans
 pub mod StatementLaws

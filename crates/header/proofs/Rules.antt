@@ -26,7 +26,7 @@ module _ (s : List ℕ) where
   pub one-long : (ts : List Statement) → every (isShort s) ts ≡ false → (t : Statement) × List·Memᴰ t ts × (Short s t → ⊥)
   one-long ts e = decided (lacks-decides (Short s) short-decides ts) (ap not e)
 
-among-decides : (k : List ℕ) (js : List (List ℕ)) → Decides (List·Memᴰ k js) (among k js)
+pub among-decides : (k : List ℕ) (js : List (List ℕ)) → Decides (List·Memᴰ k js) (among k js)
 unfolding among
 among-decides k [] = fails (λ m. List·Memᴰ·not-nil m)
 among-decides k (j ∷ js) =

@@ -3,4 +3,7 @@ pub mod Cases
 pub mod Entry
 pub mod Frame
 pub mod Grammar
+pub mod Hash
+pub mod Lookup
+pub mod Repeats
 pub mod Statements

@@ -1,5 +1,8 @@
 // A header: its frame, its statements, its keys.
 pub mod frame;
+pub mod lookup;
+pub mod parse;
+pub mod repeat;
 
 use scan::Error;
 

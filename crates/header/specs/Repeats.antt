@@ -1,0 +1,29 @@
+-- What the functions that look for a repeated key say to each other.
+use mathlib.Core.Path.{_≡_}
+use mathlib.Core.Bool.{Bool, false}
+use mathlib.Core.List.{List, [], _∷_, _++_, map}
+use mathlib.Core.Option.{Option, none, some}
+use Prim.Native.Nat.{ℕ}
+use lib.Dec.{ltb}
+use Rattle.scan.specs.Chain.{Chain}
+use Rattle.header.specs.Entry.{key}
+use Rattle.header.specs.Grammar.{StatementFrom}
+use Rattle.header.specs.Hash.{ContainsKeys}
+use Rattle.header.specs.Statements.{among}
+use Rattle.header.specs.declared.Statement.{Statement}
+
+-- The statements `ts` stand end to end from an offset up to, not including, another.
+abbrev pub StatementsTo : List ℕ → ℕ → List Statement → ℕ → Type 0
+StatementsTo s from ts to = Chain (StatementFrom s) (λ end. end ≡ to) from ts
+
+-- Whether a statement was found that starts before an offset.
+abbrev pub startsBefore : ℕ → Option Statement → Bool
+startsBefore to none = false
+startsBefore to (some t) = ltb (t .first) to
+
+-- The key k of the statement at `to` was looked for among those of the statements from `from` up to it, with a table l that
+-- contains these, and inserted into the table, which is l′ now: r says whether it is one of them.
+pub record KeyInserted (s : List ℕ) (from to mask : ℕ) (k l l′ : List ℕ) (r : Bool) : Type 0 where
+  pub repeated : (ts : List Statement) → StatementsTo s from ts to → ContainsKeys mask l (map (key s) ts)
+      → r ≡ among k (map (key s) ts)
+  pub contained : (ks : List (List ℕ)) → ContainsKeys mask l ks → ContainsKeys mask l′ (ks ++ (k ∷ []))

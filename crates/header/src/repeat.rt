@@ -1,0 +1,153 @@
+// Whether a key stands twice in a header: by a hash table, with an exact comparison where the hash is in it already.
+use super::Next;
+use super::lookup::Sought;
+use super::lookup::find_key;
+use super::parse::statement_at;
+use text::key::fold_byte;
+use text::whitespace::is_whitespace;
+ghost use mathlib.Core.Path.{_≡_};
+ghost use mathlib.Core.Bool.{not};
+ghost use mathlib.Core.List.{map};
+ghost use Rattle.text.specs.Key.{keyOf};
+ghost use Rattle.header.specs.Entry.{key};
+ghost use Rattle.header.specs.Hash.{mixed, mixedKeyByte, hashOf, Inserted};
+ghost use Rattle.header.specs.Lookup.{firstStatement};
+ghost use Rattle.header.specs.Repeats.{startsBefore, KeyInserted};
+ghost use Rattle.header.specs.Statements.{leadingStatements, areDistinct};
+
+fn wide(b: u8) -> u64
+    ensures { λ r. ⌜ r ≡ b ⌝ }
+{
+    b as u64
+}
+
+// One byte more in a hash.
+fn mix(h: u64, b: u8) -> u64
+    ensures { λ r. ⌜ r ≡ mixed h b ⌝ }
+{
+    let y = h % 4294967296 * 4294883355 + h / 4294967296 + wide(b);
+    y ^ (y / 536870912)
+}
+
+// One byte of a key more, as it stands in the file.
+fn mix_key_byte(h: u64, b: u8) -> u64
+    ensures { λ r. ⌜ r ≡ mixedKeyByte h b ⌝ }
+{
+    if is_whitespace(b) {
+        return h;
+    }
+    mix(h, fold_byte(b))
+}
+
+// The hash of a key, without whitespace and folded.
+fn hash_key(k: &[u8]) -> u64
+    ensures { λ r. ⌜ r ≡ hashOf (keyOf (now (k .entry))) ⌝ }
+{
+    let mut h: u64 = 1;
+    let mut i = 0;
+    while i < k.len() {
+        h = mix_key_byte(h, k[i]);
+        i += 1;
+    }
+    mix(h, 0)
+}
+
+// Inserts the hash `h` into the table, at the first empty slot from `slot` on, if it is not there. False: it was not there.
+// True: it was there, or the table is full, or `h` is 0, which no slot can hold.
+fn insert(table: &mut [u64], slot: usize, h: u64) -> bool
+    ensures { λ r. ⌜ Inserted (now (table .entry)) (now (table .exit)) slot h r ⌝ }
+{
+    if h == 0 {
+        return true;
+    }
+    let mut i = slot;
+    while i < table.len() {
+        let v = table[i];
+        if v == 0 {
+            table[i] = h;
+            return false;
+        }
+        if v == h {
+            return true;
+        }
+        i += 1;
+    }
+    true
+}
+
+// Whether the key that is looked up, from `from` on, is that of a statement before `to`.
+fn is_earlier(s: &[u8], from: usize, to: usize, k: &[u8]) -> bool
+    ensures { λ r. ⌜ r ≡ startsBefore to (firstStatement (now (s .entry)) (keyOf (now (k .entry))) (leadingStatements (now (s .entry)) from)) ⌝ }
+{
+    match find_key(s, from, k) {
+        Sought::Missing => false,
+        Sought::At(t) => t.first < to,
+    }
+}
+
+// Whether `k` is a key of the statements from `from` up to `to`, whose hashes the table contains. Now it contains that of `k`.
+fn insert_key(s: &[u8], from: usize, to: usize, k: &[u8], table: &mut [u64], mask: u64) -> bool
+    ensures { λ r. ⌜ KeyInserted (now (s .entry)) from to mask (keyOf (now (k .entry))) (now (table .entry)) (now (table .exit)) r ⌝ }
+{
+    let h = hash_key(k);
+    let slot = (h & mask) as usize;
+    if insert(table, slot, h) {
+        return is_earlier(s, from, to, k);
+    }
+    false
+}
+
+// With a table that is lent.
+fn has_repeated_key_in(s: &[u8], from: usize, table: &mut [u64], mask: u64) -> bool
+    ensures { λ r. ⌜ r ≡ not (areDistinct (map (key (now (s .entry))) (leadingStatements (now (s .entry)) from))) ⌝ }
+{
+    let mut i = from;
+    loop {
+        match statement_at(s, i) {
+            Next::End => {
+                return false;
+            }
+            Next::Malformed => {
+                return false;
+            }
+            Next::One(t) => {
+                let a = t.first;
+                let e = t.equals;
+                if insert_key(s, from, i, &s[a..e], table, mask) {
+                    return true;
+                }
+                i = t.end + 1;
+            }
+        }
+    }
+}
+
+// The last 64 slots are for probes that start near the end, which do not wrap around.
+fn by_small_table(s: &[u8], from: usize) -> bool
+    ensures { λ r. ⌜ r ≡ not (areDistinct (map (key (now (s .entry))) (leadingStatements (now (s .entry)) from))) ⌝ }
+{
+    let mut table = [0u64; 2112];
+    has_repeated_key_in(s, from, &mut table, 2047)
+}
+
+// Here the last 512.
+fn by_large_table(s: &[u8], from: usize) -> bool
+    ensures { λ r. ⌜ r ≡ not (areDistinct (map (key (now (s .entry))) (leadingStatements (now (s .entry)) from))) ⌝ }
+{
+    let mut table = [0u64; 33280];
+    has_repeated_key_in(s, from, &mut table, 32767)
+}
+
+// Whether a key stands twice among the statements from `from` on. `s` ends where the body ends. A small header does not pay
+// for clearing a large table.
+pub fn has_repeated_key(s: &[u8], from: usize) -> bool
+    ensures { λ r. ⌜ r ≡ not (areDistinct (map (key (now (s .entry))) (leadingStatements (now (s .entry)) from))) ⌝ }
+{
+    let n = s.len();
+    if from < n {
+        if 4096 < n - from {
+            return by_large_table(s, from);
+        }
+    }
+    by_small_table(s, from)
+}
