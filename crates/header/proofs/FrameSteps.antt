@@ -1,6 +1,6 @@
 -- `headerAt` step by step, as the code takes it.
 use mathlib.Core.Path.{_≡_, refl, sym, ap, _∙_}
-use mathlib.Core.Bool.{Bool, true, false}
+use mathlib.Core.Bool.{true, false}
 use mathlib.Core.List.{List}
 use Prim.Native.Nat.{ℕ, suc, _+_, _-_, _≤_, _<_}
 use native.Mathlib.Numerals.{add-one}
@@ -11,14 +11,13 @@ use lib.ListN.{length, take, length-take, List·getD-eq-default}
 use lib.Seq.{take-all}
 use Rattle.scan.specs.Byte.{byte}
 use Rattle.scan.specs.First.{First}
-use Rattle.scan.specs.Outcome.{Outcome, ok, failed, refused}
+use Rattle.scan.specs.Outcome.{ok, refused}
 use Rattle.scan.specs.Search.{firstFrom}
 use Rattle.scan.specs.declared.Found.{Found}
 use Rattle.scan.specs.declared.Found.the-variants.{At, Nothing}
 use Rattle.scan.proofs.Cases.{by-test}
 use Rattle.scan.proofs.Searches.{search-says}
 use Rattle.header.specs.Frame.{openingAt, closingAt, endsBody, frameAt, headerAt}
-use Rattle.header.specs.declared.Header.{Header}
 
 -- What a test of a callee's result says of the value that the callee ensures.
 pub passed : {x y k : ℕ} → x ≡ y → x ≡ k → eqb y k ≡ true

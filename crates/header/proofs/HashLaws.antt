@@ -1,9 +1,9 @@
 -- The hash of a key, byte by byte of the file; and what an insertion keeps of the hash table.
-use mathlib.Core.Path.{_≡_, refl, sym, ap, subst, _∙_}
+use mathlib.Core.Path.{_≡_, sym, ap, subst, _∙_}
 use mathlib.Core.Logic.{_≢_}
 use mathlib.Core.Bool.{Bool, true, false, true≢false}
-use mathlib.Core.List.{List, [], _∷_}
-use Prim.Native.Nat.{ℕ, suc, _+_, _*_, _/_, _%_, _≤_, _<_}
+use mathlib.Core.List.{List}
+use Prim.Native.Nat.{ℕ, _+_, _*_, _/_, _%_, _≤_, _<_}
 use native.Mathlib.Nat.{mod-lt, div-lt-iff-lt-mul, mul-le-mul}
 use native.Mathlib.Numerals.{add-one}
 use native.Mathlib.Omega.{arith}
@@ -11,10 +11,9 @@ use lib.ListN.{length, getD, set, length-set, drop, drop-of-length-le}
 use lib.Seq.{drop-cons, getD-set-same, getD-set-other}
 use Rattle.scan.specs.Byte.{byte}
 use Rattle.scan.proofs.Cases.{by-order, by-test}
-use Rattle.text.specs.Fold.{fold}
 use Rattle.text.specs.Key.{strip, keyOf}
 use Rattle.text.specs.Whitespace.{whitespace}
-use Rattle.header.specs.Hash.{mixed, mixedKeyByte, hashFrom, hashOf, Contains, Inserted}
+use Rattle.header.specs.Hash.{mixedKeyByte, hashFrom, Contains, Inserted}
 
 -- ---- The hash
 

@@ -1,12 +1,12 @@
 -- The leading statements: an equation without a count, and the statements of a well-formed body.
 use mathlib.Core.Path.{_≡_, refl, ap, sym, _∙_}
-use mathlib.Core.List.{List, [], _∷_, _++_, map}
-use mathlib.Core.Option.{Option, some}
+use mathlib.Core.List.{List, [], _∷_, _++_}
+use mathlib.Core.Option.{some}
 use Prim.Native.Nat.{ℕ, zero, suc, _+_, _-_, _≤_, _<_}
 use native.Mathlib.Omega.{arith}
 use lib.ListN.{length, take, drop}
 use Rattle.scan.specs.Byte.{between}
-use Rattle.scan.proofs.Finds.{Finds, found, missing}
+use Rattle.scan.proofs.Finds.{Finds, found}
 use Rattle.text.specs.Key.{keyOf}
 use Rattle.header.specs.Entry.{key}
 use Rattle.header.specs.Grammar.{StatementFrom, OnlyWhitespace}

@@ -1,25 +1,25 @@
 -- Looking a key up in statements is looking it up in what they say; what is found is a statement; and where its value is.
 use mathlib.Core.Path.{_≡_, refl, sym, ap, _∙_}
-use mathlib.Core.Bool.{Bool, true, false}
+use mathlib.Core.Bool.{true, false}
 use mathlib.Core.List.{List, [], _∷_}
 use mathlib.Core.Option.{Option, none, some, Option·map}
 use Prim.Native.Nat.{ℕ, zero, suc, _+_, _-_, _≤_, _<_}
 use native.Mathlib.Numerals.{add-one}
 use native.Mathlib.Omega.{arith}
 use lib.ListN.{length, take, drop}
-use lib.Seq.{length-slice}
-use Rattle.scan.specs.Byte.{same}
+use lib.Seq.{length-slice, drop-drop, take-take}
+use Rattle.scan.specs.Byte.{bytesAt, same}
 use Rattle.scan.specs.declared.Span.{Span}
 use Rattle.scan.proofs.Cases.{by-test, none-some}
-use Rattle.text.specs.Value.{valueSpan}
-use Rattle.header.specs.Entry.{Entry, key, rawValue, span, entries, lookup}
+use Rattle.text.specs.Value.{valueSpan, valueOf}
+use Rattle.header.specs.Entry.{key, rawValue, value, span, entries, lookup}
 use Rattle.header.specs.Grammar.{IsStatement}
 use Rattle.header.specs.Lookup.{firstStatement, entryOf}
 use Rattle.header.specs.Statements.{statementAt, followed, leadingWithin, leadingStatements}
 use Rattle.header.specs.declared.Next.{Next}
 use Rattle.header.specs.declared.Next.the-variants.{One, End, Malformed}
 use Rattle.header.specs.declared.Statement.{Statement}
-use Rattle.header.proofs.Leading.{part-is, statement-stands, leading-one, leading-end, leading-malformed}
+use Rattle.header.proofs.Leading.{part-between, part-is, statement-stands, leading-one, leading-end, leading-malformed}
 use Rattle.header.proofs.Spans.{value-fits}
 use Rattle.header.proofs.OneStatement.{NextSays, statement-says}
 use Rattle.header.proofs.StatementLaws.{statement-inside}
@@ -101,3 +101,27 @@ module _ (s : List ℕ) (t : Statement) (order : t .equals < t .end) where
       let raw : length (rawValue s t) ≡ t .end - suc (t .equals) = length-slice (suc (t .equals)) (t .end) s h in
       let f : p ≡ valueSpan (rawValue s t) = e ∙ ap valueSpan part-raw in
       omega (arith, raw, value-fits (rawValue s t), ap (λ (q : Span). q .offset) f)
+
+-- ---- The bytes at the span of a value are the value
+
+-- A part of a prefix that lies in it is the file's.
+part-of-prefix : (n from to : ℕ) (s : List ℕ) → from + n ≤ to → take n (drop from (take to s)) ≡ take n (drop from s)
+part-of-prefix n from to s h =
+    part-between from n (take to s) ∙ ap (drop from) (take-take (from + n) to s h) ∙ sym (part-between from n s)
+
+module _ (s : List ℕ) (t : Statement) (order : t .equals < t .end) (inside : t .end ≤ length s) where
+  -- The span ends before the `;`.
+  pub span-ends : span s t .offset + span s t .length ≤ t .end
+  unfolding span
+  span-ends = omega (arith, length-slice (suc (t .equals)) (t .end) s inside, value-fits (rawValue s t))
+
+  pub value-at-span : bytesAt s (span s t) ≡ value s t
+  unfolding span value valueOf
+  value-at-span =
+      let p = valueSpan (rawValue s t) in
+      sym (ap (take (p .length)) (drop-drop (p .offset) (suc (t .equals)) (take (t .end) s))
+      ∙ part-of-prefix (p .length) (suc (t .equals) + p .offset) (t .end) s span-ends)
+
+  -- The same as a part that is lent.
+  pub value-part : (p : Span) → p ≡ span s t → take (p .offset + p .length - p .offset) (drop (p .offset) s) ≡ value s t
+  value-part p e = let k : p .offset + p .length - p .offset ≡ p .length = omega arith in rw k (ap (bytesAt s) e ∙ value-at-span)

@@ -1,22 +1,19 @@
 -- Whether a key stands twice: by a hash table, with an exact comparison where the hash is in it already.
 use mathlib.Core.Path.{_≡_, refl, sym, ap, subst, _∙_}
-use mathlib.Core.Bool.{Bool, true, false, cond, not, _||_}
+use mathlib.Core.Bool.{Bool, true, false, not, _||_}
 use mathlib.Core.List.{List, [], _∷_, _++_, map, List·Memᴰ, List·Memᴰ·head, List·Memᴰ·tail, List·Memᴰ·cases-cons, List·Memᴰ·not-nil}
 use mathlib.Core.List.{append-nil, List·Memᴰ·append-cases, List·Memᴰ·eq-of-singleton, Memᴰ·append-right}
 use mathlib.Core.Logic.{⊎-elim}
-use mathlib.Core.Option.{Option, none, some}
 use Prim.Native.Nat.{ℕ, zero, suc, _+_, _≤_, _<_}
 use native.Mathlib.Numerals.{add-one}
 use native.Mathlib.Omega.{arith}
 use borrow.Author.Tests.{lt-ltb, le-ltb}
 use lib.Bits.{bitAnd}
-use lib.Dec.{ltb}
 use lib.ListN.{length}
 use Rattle.scan.specs.Byte.{same}
-use Rattle.scan.specs.Chain.{Chain}
 use Rattle.scan.proofs.Cases.{by-test}
 use Rattle.scan.proofs.Chains.{chain-more}
-use Rattle.scan.proofs.Decides.{Decides, holds, fails, decided, refuted, passes, rejects, same-decides}
+use Rattle.scan.proofs.Decides.{decided, refuted, passes, rejects, same-decides}
 use Rattle.header.specs.Entry.{key}
 use Rattle.header.specs.Grammar.{StatementFrom, Distinct}
 use Rattle.header.specs.Hash.{hashOf, slotOf, Contains, Inserted, ContainsKeys}

@@ -10,7 +10,7 @@ ghost use Prim.Native.Nat.{_≤_, _<_};
 ghost use lib.ListN.{length};
 ghost use Rattle.text.specs.Key.{keyOf};
 ghost use Rattle.header.specs.Answers.{soughtOption};
-ghost use Rattle.header.specs.Entry.{span};
+ghost use Rattle.header.specs.Entry.{value, span};
 ghost use Rattle.header.specs.Lookup.{firstStatement};
 ghost use Rattle.header.specs.Statements.{leadingStatements};
 
@@ -58,4 +58,15 @@ pub fn value_of(s: &[u8], t: Statement) -> Span
         offset: a + p.offset,
         length: p.length,
     }
+}
+
+// The value of a statement, as a part of the same slice.
+pub fn value_bytes(s: &[u8], t: Statement) -> &[u8]
+    requires { ⌜ (t .equals < t .end) × (t .end ≤ length (now s)) ⌝ }
+    ensures { λ r. ⌜ now r ≡ value (now (s .entry)) t ⌝ }
+{
+    let p = value_of(s, t);
+    let a = p.offset;
+    let e = a + p.length;
+    &s[a..e]
 }

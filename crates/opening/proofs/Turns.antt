@@ -1,9 +1,9 @@
 -- A turn of the loop that opens a file, on plain values. The loop's rows are an array of which the first `count` count.
-use mathlib.Core.Path.{_≡_, refl, sym, ap, _∙_}
-use mathlib.Core.Bool.{Bool, true, false}
+use mathlib.Core.Path.{_≡_}
+use mathlib.Core.Bool.{true, false}
 use mathlib.Core.Logic.{_≢_}
-use mathlib.Core.List.{List, [], _∷_, _++_}
-use Prim.Native.Nat.{ℕ, suc, _+_, _-_, _≤_, _<_}
+use mathlib.Core.List.{List}
+use Prim.Native.Nat.{ℕ, suc, _+_, _-_, _≤_}
 use native.Mathlib.Numerals.{add-one}
 use native.Mathlib.Omega.{arith}
 use borrow.Author.Tests.{eqb-true, eqb-false}
@@ -19,7 +19,7 @@ use Rattle.blocks.specs.declared.Accepted.{Accepted}
 use Rattle.blocks.specs.declared.FileRules.{FileRules}
 use Rattle.blocks.specs.declared.Row.{Row}
 use Rattle.blocks.proofs.Steps.{step-done, step-count, step-full, step-failed, step-twice, step-on}
-use Rattle.opening.specs.Core.{stepBy, stepOf}
+use Rattle.opening.specs.Core.{stepOf}
 use Rattle.opening.specs.declared.Step.{Step}
 use Rattle.opening.specs.declared.Step.the-variants.{Block, Done, Failed}
 

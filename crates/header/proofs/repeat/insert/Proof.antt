@@ -1,9 +1,9 @@
 -- `header::repeat::insert` meets its contract. The invariant: the table is as it was, and no slot from `slot` up to `i` is
 -- empty or holds `h`.
-use Prim.Native.Nat.{ℕ, _-_, _+_, _≤_, _<_}
-use mathlib.Core.Path.{_≡_, refl, sym, ap, _∙_}
+use Prim.Native.Nat.{_-_, _≤_}
+use mathlib.Core.Path.{_≡_, refl}
 use native.Mathlib.Omega.{arith}
-use lib.ListN.{length, getD}
+use lib.ListN.{length}
 use Rattle.header.proofs.HashLaws.{Probed, probed-more, insert-zero, insert-there, insert-full, insert-new, at-entry}
 use borrow.Author.Needs.{needs}
 use Rattle.header.proofs.repeat.insert.Statement.{statement}

@@ -1,5 +1,5 @@
 -- `header::repeat::is_earlier` meets its contract.
-use mathlib.Core.Path.{_≡_, sym, ap, _∙_}
+use mathlib.Core.Path.{sym, ap, _∙_}
 use Rattle.header.specs.Answers.{soughtOption}
 use Rattle.header.specs.Repeats.{startsBefore}
 use borrow.Author.Needs.{needs}

@@ -1,5 +1,5 @@
 -- `header::repeat::mix_key_byte` meets its contract.
-use mathlib.Core.Path.{_≡_, sym, _∙_}
+use mathlib.Core.Path.{sym, _∙_}
 use Rattle.header.specs.Hash.{mixedKeyByte}
 use borrow.Author.Needs.{needs}
 use Rattle.header.proofs.repeat.mix_key_byte.Statement.{statement}

@@ -1,8 +1,7 @@
 -- `text::value::trimmed_span` meets its contract, by the first visible byte.
-use mathlib.Core.Path.{_≡_, sym, ap, _∙_}
+use mathlib.Core.Path.{sym, ap, _∙_}
 use Prim.Native.Nat.{ℕ, _-_}
 use native.Mathlib.Omega.{arith}
-use Rattle.scan.specs.declared.Span.{Span}
 use Rattle.text.proofs.Trims.{trimmed-empty, trimmed-some, first-before-end}
 use borrow.Author.Needs.{needs}
 use Rattle.text.proofs.value.trimmed_span.Statement.{statement}
