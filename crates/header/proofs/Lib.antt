@@ -1,3 +1,4 @@
+pub mod CheckSteps
 pub mod FrameLaws
 pub mod FrameParts
 pub mod FrameSteps
@@ -12,5 +13,6 @@ pub mod RepeatLaws
 pub mod Rules
 pub mod Spans
 pub mod StatementLaws
+pub mod StatementSteps
 pub mod Unambiguous
 pub mod Window

@@ -1,6 +1,8 @@
 -- The outcomes and values of this layer's answers.
 use mathlib.Core.Option.{Option, none, some}
 use Rattle.scan.specs.Outcome.{Outcome, ok, failed}
+use Rattle.header.specs.declared.Checked.{Checked}
+use Rattle.header.specs.declared.Checked.the-variants as checked
 use Rattle.header.specs.declared.Framed.{Framed}
 use Rattle.header.specs.declared.Framed.the-variants as framed
 use Rattle.header.specs.declared.Header.{Header}
@@ -17,3 +19,8 @@ framedOutcome (framed.Failed e) = failed e
 abbrev pub soughtOption : Sought → Option Statement
 soughtOption (sought.At t) = some t
 soughtOption sought.Missing = none
+
+-- A check that passes, or the error.
+abbrev pub checkedOutcome : Checked → Outcome (Unit {0})
+checkedOutcome checked.Good = ok tt
+checkedOutcome (checked.Failed e) = failed e

@@ -1,5 +1,6 @@
 pub mod Answers
 pub mod Cases
+pub mod Checks
 pub mod Entry
 pub mod Frame
 pub mod Grammar

@@ -1,8 +1,8 @@
 // A header: its frame, its statements, its keys.
 pub mod frame;
 pub mod lookup;
-pub mod parse;
 pub mod repeat;
+pub mod statements;
 
 use scan::Error;
 
@@ -31,5 +31,11 @@ pub enum Next {
 // The answer of a search for a header: where it stands, or why none does.
 pub enum Framed {
     At(Header),
+    Failed(Error),
+}
+
+// The answer of a check: it passes, or the error.
+pub enum Checked {
+    Good,
     Failed(Error),
 }

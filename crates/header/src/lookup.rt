@@ -1,7 +1,7 @@
 // Looking a key up, and where its value stands.
 use super::Next;
 use super::Statement;
-use super::parse::statement_at;
+use super::statements::statement_at;
 use scan::Span;
 use text::key::same_key;
 use text::value::value_span;

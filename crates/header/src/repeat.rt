@@ -2,7 +2,7 @@
 use super::Next;
 use super::lookup::Sought;
 use super::lookup::find_key;
-use super::parse::statement_at;
+use super::statements::statement_at;
 use text::key::fold_byte;
 use text::whitespace::is_whitespace;
 ghost use mathlib.Core.Path.{_≡_};
