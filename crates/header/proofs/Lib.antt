@@ -1,4 +1,5 @@
 pub mod CheckSteps
+pub mod Checks
 pub mod FrameLaws
 pub mod FrameParts
 pub mod FrameSteps

@@ -1,11 +1,11 @@
 -- `statementAt` step by step, as the code takes it: the first visible byte, the first `=` or `;` from there, and the `;`
 -- after the `=`.
-use mathlib.Core.Path.{_≡_, refl, sym, ap, _∙_}
-use mathlib.Core.Bool.{Bool, true, false, true≢false}
+use mathlib.Core.Path.{_≡_, refl, ap}
+use mathlib.Core.Bool.{true, false, true≢false}
 use mathlib.Core.List.{List}
-use Prim.Native.Nat.{ℕ, suc, _+_, _≤_, _<_}
+use Prim.Native.Nat.{ℕ, _+_, _≤_, _<_}
 use native.Mathlib.Omega.{arith}
-use borrow.Author.Tests.{eq-eqb, ne-eqb, eqb-true, eqb-false, lt-ltb, le-ltb}
+use borrow.Author.Tests.{eq-eqb, ne-eqb, eqb-true, lt-ltb, le-ltb}
 use lib.Dec.{eqb}
 use lib.ListN.{length}
 use Rattle.scan.specs.Byte.{byte}
@@ -14,14 +14,11 @@ use Rattle.scan.specs.Search.{firstFrom, is}
 use Rattle.scan.specs.declared.Found.{Found}
 use Rattle.scan.specs.declared.Found.the-variants.{At, Nothing}
 use Rattle.scan.proofs.Cases.{by-test, by-order, clash}
-use Rattle.scan.proofs.Decides.{Decides, decided, refuted, passes, rejects, decides-or, eqb-decides}
 use Rattle.scan.proofs.Searches.{FoundSays, search-says, search-is}
 use Rattle.text.specs.Whitespace.{whitespace, visible}
 use Rattle.header.specs.Checks.{separator}
 use Rattle.header.specs.Statements.{nextBy, statementAt}
-use Rattle.header.specs.declared.Next.{Next}
 use Rattle.header.specs.declared.Next.the-variants.{One, End, Malformed}
-use Rattle.header.specs.declared.Statement.{Statement}
 
 -- ---- The bytes
 

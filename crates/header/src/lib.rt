@@ -1,4 +1,5 @@
 // A header: its frame, its statements, its keys.
+pub mod check;
 pub mod frame;
 pub mod lookup;
 pub mod repeat;

@@ -73,11 +73,10 @@ module _ (s : List ℕ) (rows : List Row) (count at : ℕ) (r : FileRules) (few 
       rw fuel (step-failed (256 - count) s (take count rows) at r (rw counted e) (rw counted f) (rw counted b))
   turned x (block {a = a} e f b) =
       let next : 257 - (count + 1) ≡ 256 - count = omega arith in
-      let here : blockAt s r (eqb (length (take count rows)) 0) at ≡ ok a = rw counted b in
-      (
+      let here : blockAt s r (eqb (length (take count rows)) 0) at ≡ ok a = rw counted b in (
         (λ t. rw fuel (step-twice (256 - count) s (take count rows) at r (rw counted e) (rw counted f) here t)),
         (λ t. rw (fuel, next, add-one count, take-suc-set rows count (a .row) (omega arith))
-        (step-on (256 - count) s (take count rows) at r (rw counted e) (rw counted f) here t)),
+            (step-on (256 - count) s (take count rows) at r (rw counted e) (rw counted f) here t)),
       )
 
   pub turn : Turned (stepOf s count at r)

@@ -1,8 +1,7 @@
 -- `header::statements::check_shape` meets its contract. The invariant: what is to be answered from where the loop stands, with
 -- whether all before were short, is what is to be answered for the whole.
-use mathlib.Core.Path.{_≡_, sym, ap, _∙_}
-use mathlib.Core.Bool.{Bool}
-use Prim.Native.Nat.{_-_, _+_}
+use mathlib.Core.Path.{_≡_, sym, _∙_}
+use Prim.Native.Nat.{_-_}
 use native.Mathlib.Omega.{arith}
 use lib.ListN.{length}
 use Rattle.header.specs.Checks.{shapeChecked}
