@@ -1,0 +1,50 @@
+-- What the statements of a body say, by the statement at its first byte and by what a search finds.
+use mathlib.Core.Path.{_≡_, refl, sym, ap, _∙_}
+use mathlib.Core.Bool.{Bool, true, false, cond, _&&_, not}
+use mathlib.Core.List.{List, [], _∷_}
+use mathlib.Core.Option.{Option, none, some, Option·map}
+use Prim.Native.Nat.{ℕ, suc, _+_}
+use native.Mathlib.Numerals.{add-one}
+use Rattle.scan.specs.Byte.{same}
+use Rattle.scan.proofs.Cases.{by-test, by-option}
+use Rattle.header.specs.Entry.{Entry, key, value, span, entries, valueIn}
+use Rattle.header.specs.Lookup.{firstStatement, entryOf}
+use Rattle.header.specs.Statements.{statementAt, leadingStatements}
+use Rattle.header.specs.declared.Next.{Next}
+use Rattle.header.specs.declared.Next.the-variants.{One, End, Malformed}
+use Rattle.header.specs.declared.Statement.{Statement}
+use Rattle.header.proofs.Leading.{statement-stands, leading-one, leading-end, leading-malformed}
+use Rattle.header.proofs.LookupLaws.{lookup-first}
+use Rattle.blocks.specs.Judging.{generalBy, generalRules}
+use Rattle.blocks.specs.Keys.{DataBlocksKey, BoundaryKey, first, second, noEntry, counting}
+use Rattle.blocks.specs.Reading.{isVersion, askedFor, numberOr}
+use Rattle.opening.specs.Entries.{entriesFrom, secondCount}
+
+module _ (s : List ℕ) (at : ℕ) where
+  -- The statement at the first byte says the first entry, and what follows it the others.
+  pub entries-one : {t : Statement} → statementAt s at ≡ One t → entriesFrom s at ≡ entryOf s t ∷ entriesFrom s (t .end + 1)
+  unfolding entries
+  entries-one {t} e = rw (add-one (t .end), leading-one s (statement-stands s at t e))
+
+  pub entries-end : statementAt s at ≡ End → entriesFrom s at ≡ []
+  unfolding entries
+  entries-end e = rw (leading-end s at e)
+
+  pub entries-malformed : statementAt s at ≡ Malformed → entriesFrom s at ≡ []
+  unfolding entries
+  entries-malformed e = rw (leading-malformed s at e)
+
+-- The value of a key is that of the first statement with the key.
+pub value-found : (s k : List ℕ) (ts : List Statement) → valueIn k (entries s ts) ≡ Option·map (value s) (firstStatement s k ts)
+value-found s k ts =
+    by-option (firstStatement s k ts) (λ n. rw (lookup-first s k ts, n)) (λ t e. rw (lookup-first s k ts, e))
+
+-- A general header, check by check.
+pub general-is : (e : Entry) (rest : List Entry)
+    → generalRules (e ∷ rest)
+    ≡ cond (isVersion (e .value)) (generalBy (secondCount rest) (numberOr 512 1 (valueIn BoundaryKey (counting (e ∷ rest))))) none
+unfolding generalRules secondCount
+general-is e rest =
+    by-test (isVersion (e .value))
+    (λ v. by-test (same (first rest .key) DataBlocksKey) (λ d. rw (v, d)) (λ d. rw (v, d)))
+    (λ v. rw v)
