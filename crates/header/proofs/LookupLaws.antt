@@ -20,7 +20,7 @@ use Rattle.header.specs.declared.Next.{Next}
 use Rattle.header.specs.declared.Next.the-variants.{One, End, Malformed}
 use Rattle.header.specs.declared.Statement.{Statement}
 use Rattle.header.proofs.Leading.{part-between, part-is, statement-stands, leading-one, leading-end, leading-malformed}
-use Rattle.header.proofs.Spans.{value-fits}
+use Rattle.text.proofs.ValueSpans.{value-fits, held-part}
 use Rattle.header.proofs.OneStatement.{NextSays, statement-says}
 use Rattle.header.proofs.StatementLaws.{statement-inside}
 
@@ -124,4 +124,4 @@ module _ (s : List ℕ) (t : Statement) (order : t .equals < t .end) (inside : t
 
   -- The same as a part that is lent.
   pub value-part : (p : Span) → p ≡ span s t → take (p .offset + p .length - p .offset) (drop (p .offset) s) ≡ value s t
-  value-part p e = let k : p .offset + p .length - p .offset ≡ p .length = omega arith in rw k (ap (bytesAt s) e ∙ value-at-span)
+  value-part p e = held-part s p (span s t) e ∙ value-at-span

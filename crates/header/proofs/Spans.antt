@@ -1,66 +1,17 @@
 -- Where a header's statements lie: inside the header, and their values between `=` and `;`.
 use mathlib.Core.Path.{_≡_}
-use mathlib.Core.Bool.{_&&_}
 use mathlib.Core.List.{List, [], _∷_, List·Memᴰ, List·Memᴰ·cases-cons, List·Memᴰ·not-nil}
 use mathlib.Core.Logic.{⊎-elim}
-use Prim.Native.Nat.{ℕ, zero, suc, _+_, _-_, _≤_, _<_, zero-le, suc-le-suc}
+use Prim.Native.Nat.{ℕ, suc, _+_, _-_, _≤_, _<_}
 use native.Mathlib.Omega.{arith}
-use borrow.Author.Tests.{ltb-true}
-use lib.Dec.{eqb, ltb}
 use lib.ListN.{length, length-take}
 use lib.Seq.{length-slice}
-use Rattle.scan.specs.Byte.{byte}
-use Rattle.scan.specs.declared.Span.{Span}
-use Rattle.scan.proofs.Cases.{by-test}
-use Rattle.text.specs.Value.{leading, trimmedEnd, trimmed, withoutOpeningQuote, withoutClosingQuote, valueSpan}
-use Rattle.text.specs.Whitespace.{whitespace}
+use Rattle.text.proofs.ValueSpans.{value-fits}
 use Rattle.header.specs.Entry.{bodyOf, rawValue, span}
 use Rattle.header.specs.Grammar.{IsStatement, Parse}
 use Rattle.header.specs.declared.Header.{Header}
 use Rattle.header.specs.declared.Statement.{Statement}
 use Rattle.header.proofs.StatementLaws.{EndToEnd, statement-inside}
-
--- ---- The value in the bytes between `=` and `;`
-
-leading-inside : (l : List ℕ) → leading l ≤ length l
-unfolding leading
-leading-inside [] = zero-le
-leading-inside (b ∷ bs) = by-test (whitespace b) (λ e. rw e (suc-le-suc (leading-inside bs))) (λ e. rw e zero-le)
-
-trimmed-end-inside : (l : List ℕ) (n : ℕ) → trimmedEnd l n ≤ n
-unfolding trimmedEnd
-trimmed-end-inside l zero = zero-le
-trimmed-end-inside l (suc n) =
-    by-test (whitespace (byte l n)) (λ e. rw e (omega (arith, trimmed-end-inside l n))) (λ e. rw e (omega arith))
-
-module _ (l : List ℕ) where
-  -- A span lies in the list.
-  abbrev Fits : Span → Type 0
-  Fits p = p .offset + p .length ≤ length l
-
-  trimmed-fits : Fits (trimmed l)
-  unfolding trimmed
-  trimmed-fits = omega (arith, leading-inside l, trimmed-end-inside l (length l))
-
-  opening-quote-fits : (p : Span) → Fits p → Fits (withoutOpeningQuote l p)
-  unfolding withoutOpeningQuote
-  opening-quote-fits p h =
-      by-test (ltb 0 (p .length))
-      (λ e. rw e (by-test (eqb (byte l (p .offset)) 34) (λ f. rw f (omega (arith, ltb-true 0 (p .length) e)))
-      (λ f. rw f h)))
-      (λ e. rw e h)
-
-  closing-quote-fits : (p : Span) → Fits p → Fits (withoutClosingQuote l p)
-  unfolding withoutClosingQuote
-  closing-quote-fits p h =
-      by-test (ltb 0 (p .length) && eqb (byte l (p .offset + p .length - 1)) 34) (λ e. rw e (omega arith)) (λ e. rw e h)
-
-  -- A value lies in the bytes that it is taken from.
-  pub value-fits : Fits (valueSpan l)
-  unfolding valueSpan
-  value-fits = closing-quote-fits _ (opening-quote-fits _ trimmed-fits)
-
--- ---- Statements in their header
 
 module _ (s : List ℕ) where
   -- Of statements end to end from an offset on, each lies after it.

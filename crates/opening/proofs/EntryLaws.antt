@@ -1,23 +1,22 @@
 -- What the statements of a body say, by the statement at its first byte and by what a search finds.
-use mathlib.Core.Path.{_≡_, refl, sym, ap, _∙_}
-use mathlib.Core.Bool.{Bool, true, false, cond, _&&_, not}
+use mathlib.Core.Path.{_≡_}
+use mathlib.Core.Bool.{cond}
 use mathlib.Core.List.{List, [], _∷_}
-use mathlib.Core.Option.{Option, none, some, Option·map}
-use Prim.Native.Nat.{ℕ, suc, _+_}
+use mathlib.Core.Option.{none, Option·map}
+use Prim.Native.Nat.{ℕ, _+_}
 use native.Mathlib.Numerals.{add-one}
 use Rattle.scan.specs.Byte.{same}
 use Rattle.scan.proofs.Cases.{by-test, by-option}
-use Rattle.header.specs.Entry.{Entry, key, value, span, entries, valueIn}
+use Rattle.header.specs.Entry.{Entry, key, value, entries, valueIn}
 use Rattle.header.specs.Lookup.{firstStatement, entryOf}
-use Rattle.header.specs.Statements.{statementAt, leadingStatements}
-use Rattle.header.specs.declared.Next.{Next}
+use Rattle.header.specs.Statements.{statementAt}
 use Rattle.header.specs.declared.Next.the-variants.{One, End, Malformed}
 use Rattle.header.specs.declared.Statement.{Statement}
 use Rattle.header.proofs.Leading.{statement-stands, leading-one, leading-end, leading-malformed}
 use Rattle.header.proofs.LookupLaws.{lookup-first}
 use Rattle.blocks.specs.Judging.{generalBy, generalRules}
-use Rattle.blocks.specs.Keys.{DataBlocksKey, BoundaryKey, first, second, noEntry, counting}
-use Rattle.blocks.specs.Reading.{isVersion, askedFor, numberOr}
+use Rattle.blocks.specs.Keys.{DataBlocksKey, BoundaryKey, first, counting}
+use Rattle.blocks.specs.Reading.{isVersion, numberOr}
 use Rattle.opening.specs.Entries.{entriesFrom, secondCount}
 
 module _ (s : List ℕ) (at : ℕ) where

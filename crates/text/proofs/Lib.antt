@@ -1,6 +1,13 @@
+pub mod Buffers
+pub mod Decimals
+pub mod DigitWriting
+pub mod Digits
+pub mod Escaping
 pub mod Everys
 pub mod Folds
 pub mod KeySteps
 pub mod Numbers
 pub mod RoundTrip
+pub mod Signs
 pub mod Trims
+pub mod ValueSpans

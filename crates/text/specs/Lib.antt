@@ -7,3 +7,4 @@ pub mod Number
 pub mod Text
 pub mod Value
 pub mod Whitespace
+pub mod Signed

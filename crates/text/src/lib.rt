@@ -1,5 +1,10 @@
 // Text: whitespace, keys, values, whole numbers, escapes.
+pub mod buffer;
+pub mod decimal;
+pub mod escape;
 pub mod key;
+pub mod number;
+pub mod signed;
 pub mod value;
 pub mod whitespace;
 
