@@ -1,2 +1,7 @@
+pub mod CountingLaws
+pub mod EdfKeys
 pub mod EntryLaws
+pub mod IdentitySteps
+pub mod NumberSteps
 pub mod Turns
+pub mod VersionSteps

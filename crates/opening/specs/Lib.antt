@@ -1,2 +1,4 @@
+pub mod Answers
 pub mod Core
+pub mod Counting
 pub mod Entries

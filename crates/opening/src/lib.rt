@@ -1,4 +1,7 @@
 // Opening a file: block by block, the rows in an array of this function.
+pub mod keys;
+pub mod values;
+
 use blocks::Accepted;
 use blocks::FileRules;
 use blocks::Opened;
