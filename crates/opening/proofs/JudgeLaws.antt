@@ -1,0 +1,115 @@
+-- The judging of a header, part by part, on plain values: what a search among its statements says of its entries.
+use mathlib.Core.Path.{_≡_, refl, sym, ap, _∙_}
+use mathlib.Core.Bool.{Bool, true, false, cond, _&&_, not}
+use mathlib.Core.Logic.{_≢_}
+use mathlib.Core.List.{List, [], _∷_}
+use mathlib.Core.Option.{Option, none, some, Option·map}
+use Prim.Native.Nat.{ℕ, zero, _+_, _%_}
+use native.Mathlib.Nat.{mod-zero}
+use borrow.Author.Tests.{eq-eqb, ne-eqb}
+use lib.Dec.{eqb}
+use Rattle.scan.specs.Outcome.{isSome, isNone}
+use Rattle.text.specs.Fold.{fold, foldTable}
+use Rattle.text.specs.Key.{strip, keyOf}
+use Rattle.text.specs.Number.{wholeNumber}
+use Rattle.text.specs.Whitespace.{whitespace}
+use Rattle.header.specs.Entry.{Entry, value, entries, valueIn}
+use Rattle.header.specs.Lookup.{firstStatement}
+use Rattle.header.specs.Statements.{leadingStatements}
+use Rattle.header.specs.declared.Statement.{Statement}
+use Rattle.blocks.specs.Judging.{isWholeOrAbsent, isNumber, isLengthOrAbsent, lengthAllowed}
+use Rattle.blocks.specs.Keys.{SizeKey, VersionKey, DataBlocksKey, BlockIDKey, BoundaryKey, HeaderSizeKey, BinarySizeKey, FileNameKey, counting, countingIn, sizeValue}
+use Rattle.blocks.specs.Reading.{atLeast, numberOr}
+use Rattle.blocks.specs.declared.FileRules.{FileRules}
+use Rattle.opening.specs.Counting.{countingStatements}
+use Rattle.opening.specs.Entries.{entriesFrom}
+use Rattle.opening.proofs.CountingLaws.{counting-entries}
+use Rattle.opening.proofs.EntryLaws.{value-found}
+
+-- The keys that the code names are folded already.
+pub record Folded : Type 0 where
+  pub size : keyOf SizeKey ≡ SizeKey
+  pub binary-size : keyOf BinarySizeKey ≡ BinarySizeKey
+  pub header-size : keyOf HeaderSizeKey ≡ HeaderSizeKey
+  pub file-name : keyOf FileNameKey ≡ FileNameKey
+  pub boundary : keyOf BoundaryKey ≡ BoundaryKey
+  pub version : keyOf VersionKey ≡ VersionKey
+  pub data-blocks : keyOf DataBlocksKey ≡ DataBlocksKey
+  pub block-id : keyOf BlockIDKey ≡ BlockIDKey
+
+pub folded : Folded
+unfolding keyOf strip fold foldTable whitespace
+folded =
+    record { size = refl; binary-size = refl; header-size = refl; file-name = refl; boundary = refl; version = refl; data-blocks = refl; block-id = refl }
+
+-- ---- What a search says of the entries
+
+module _ (s : List ℕ) (from : ℕ) (k : List ℕ) where
+  pub any-none : none ≡ firstStatement s k (leadingStatements s from) → valueIn k (entriesFrom s from) ≡ none
+  any-none e = value-found s k (leadingStatements s from) ∙ rw (sym e)
+
+  pub any-some : {t : Statement} → some t ≡ firstStatement s k (leadingStatements s from) → valueIn k (entriesFrom s from) ≡ some (value s t)
+  any-some e = value-found s k (leadingStatements s from) ∙ rw (sym e)
+
+  pub counting-none : none ≡ firstStatement s k (countingStatements s (leadingStatements s from)) → valueIn k (counting (entriesFrom s from)) ≡ none
+  counting-none e =
+      rw (counting-entries s (leadingStatements s from)) (value-found s k (countingStatements s (leadingStatements s from)) ∙ rw (sym e))
+
+  pub counting-some : {t : Statement} → some t ≡ firstStatement s k (countingStatements s (leadingStatements s from))
+      → valueIn k (counting (entriesFrom s from)) ≡ some (value s t)
+  counting-some e =
+      rw (counting-entries s (leadingStatements s from)) (value-found s k (countingStatements s (leadingStatements s from)) ∙ rw (sym e))
+
+-- ---- Values that may be absent
+
+module _ {o : Option (List ℕ)} where
+  module _ (e : o ≡ none) where
+    pub number-none : (default least : ℕ) → some default ≡ numberOr default least o
+    unfolding numberOr
+    number-none default least = rw e
+
+    pub whole-none : true ≡ isWholeOrAbsent o
+    unfolding isWholeOrAbsent
+    whole-none = rw e
+
+    pub length-none : (n : ℕ) → true ≡ isLengthOrAbsent n o
+    unfolding isLengthOrAbsent
+    length-none n = rw e
+
+  module _ {w : List ℕ} (e : o ≡ some w) (v : List ℕ) (same : v ≡ w) where
+    pub number-some : (default least : ℕ) {r : Option ℕ} → r ≡ atLeast least (wholeNumber v) → r ≡ numberOr default least o
+    unfolding numberOr
+    number-some default least q = rw e (q ∙ ap (λ (l : List ℕ). atLeast least (wholeNumber l)) same)
+
+    pub whole-some : {r : Bool} → r ≡ isSome (wholeNumber v) → r ≡ isWholeOrAbsent o
+    unfolding isWholeOrAbsent
+    whole-some q = rw e (q ∙ ap (λ (l : List ℕ). isSome (wholeNumber l)) same)
+
+    pub length-some : (n : ℕ) {r : Bool} → r ≡ isNumber n (wholeNumber v) → r ≡ isLengthOrAbsent n o
+    unfolding isLengthOrAbsent
+    length-some n q = rw e (q ∙ ap (λ (l : List ℕ). isNumber n (wholeNumber l)) same)
+
+-- ---- By the kind of the file
+
+module _ (kind : ℕ) (es : List Entry) where
+  pub size-one : kind ≡ 1 → sizeValue kind es ≡ valueIn SizeKey es
+  unfolding sizeValue
+  size-one e = rw (eq-eqb kind 1 e)
+
+  pub size-two : kind ≢ 1 → sizeValue kind es ≡ valueIn BinarySizeKey (counting es)
+  unfolding sizeValue
+  size-two n = rw (ne-eqb kind 1 n)
+
+  pub counts-one : kind ≡ 1 → countingIn kind es ≡ []
+  unfolding countingIn
+  counts-one e = rw (eq-eqb kind 1 e)
+
+  pub counts-two : kind ≢ 1 → countingIn kind es ≡ counting es
+  unfolding countingIn
+  counts-two n = rw (ne-eqb kind 1 n)
+
+-- A boundary of 0 has only the length 0 for a multiple.
+module _ (r : FileRules) (es : List Entry) (length : ℕ) where
+  pub zero-boundary : r .boundary ≡ 0 → lengthAllowed r es length ≡ (eqb length 0 && isLengthOrAbsent length (valueIn HeaderSizeKey (countingIn (r .kind) es)))
+  unfolding lengthAllowed
+  zero-boundary e = rw (e, mod-zero length)
