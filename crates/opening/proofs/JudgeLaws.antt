@@ -13,7 +13,7 @@ use Rattle.text.specs.Fold.{fold, foldTable}
 use Rattle.text.specs.Key.{strip, keyOf}
 use Rattle.text.specs.Number.{wholeNumber}
 use Rattle.text.specs.Whitespace.{whitespace}
-use Rattle.header.specs.Entry.{Entry, value, entries, valueIn}
+use Rattle.header.specs.Entry.{Entry, value, entries, lookup, valueIn}
 use Rattle.header.specs.Lookup.{firstStatement}
 use Rattle.header.specs.Statements.{leadingStatements}
 use Rattle.header.specs.declared.Statement.{Statement}
@@ -108,8 +108,34 @@ module _ (kind : ℕ) (es : List Entry) where
   unfolding countingIn
   counts-two n = rw (ne-eqb kind 1 n)
 
--- A boundary of 0 has only the length 0 for a multiple.
+-- The size of the data.
+module _ (kind : ℕ) (es : List Entry) {x : Option ℕ} where
+  pub size-any : kind ≡ 1 → x ≡ numberOr 0 0 (valueIn (keyOf SizeKey) es) → x ≡ numberOr 0 0 (sizeValue kind es)
+  size-any e q = rw (size-one kind es e) (q ∙ ap (λ (k : List ℕ). numberOr 0 0 (valueIn k es)) (folded .size))
+
+  pub size-counting : kind ≢ 1 → x ≡ numberOr 0 0 (valueIn (keyOf BinarySizeKey) (counting es)) → x ≡ numberOr 0 0 (sizeValue kind es)
+  size-counting n q = rw (size-two kind es n) (q ∙ ap (λ (k : List ℕ). numberOr 0 0 (valueIn k (counting es))) (folded .binary-size))
+
+-- A value among those that count.
+module _ (kind : ℕ) (es : List Entry) (k : List ℕ) where
+  pub absent-one : kind ≡ 1 → valueIn k (countingIn kind es) ≡ none
+  unfolding lookup
+  absent-one e = rw (counts-one kind es e)
+
+  pub counted-two : kind ≢ 1 → keyOf k ≡ k → {o : Option (List ℕ)} → valueIn (keyOf k) (counting es) ≡ o → valueIn k (countingIn kind es) ≡ o
+  counted-two n f q = rw (counts-two kind es n, sym f) q
+
+-- ---- The length of a header
+
 module _ (r : FileRules) (es : List Entry) (length : ℕ) where
-  pub zero-boundary : r .boundary ≡ 0 → lengthAllowed r es length ≡ (eqb length 0 && isLengthOrAbsent length (valueIn HeaderSizeKey (countingIn (r .kind) es)))
+  pub mod-of-zero : r .boundary ≡ 0 → length % r .boundary ≡ length
+  mod-of-zero e = rw e (mod-zero length)
+
+  pub length-uneven : length % r .boundary ≢ 0 → false ≡ lengthAllowed r es length
   unfolding lengthAllowed
-  zero-boundary e = rw (e, mod-zero length)
+  length-uneven n = rw (ne-eqb (length % r .boundary) 0 n)
+
+  pub length-even : length % r .boundary ≡ 0 → {b : Bool} → b ≡ isLengthOrAbsent length (valueIn HeaderSizeKey (countingIn (r .kind) es))
+      → b ≡ lengthAllowed r es length
+  unfolding lengthAllowed
+  length-even e q = rw (eq-eqb (length % r .boundary) 0 e) q

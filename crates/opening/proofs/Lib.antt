@@ -1,6 +1,7 @@
 pub mod CountingLaws
 pub mod EdfKeys
 pub mod EntryLaws
+pub mod FirstLaws
 pub mod IdentitySteps
 pub mod JudgeLaws
 pub mod NumberSteps
