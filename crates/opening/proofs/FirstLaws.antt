@@ -1,9 +1,9 @@
 -- What the first statement of a header decides: the rules of the file and the role of its block, check by check.
-use mathlib.Core.Path.{_≡_, refl, sym, ap, _∙_}
-use mathlib.Core.Bool.{Bool, true, false, cond, _&&_, not}
+use mathlib.Core.Path.{_≡_, sym, ap, _∙_}
+use mathlib.Core.Bool.{Bool, true, false}
 use mathlib.Core.Logic.{_≢_}
 use mathlib.Core.List.{List, [], _∷_}
-use mathlib.Core.Option.{Option, none, some, Option·map}
+use mathlib.Core.Option.{Option, none, some}
 use Prim.Native.Nat.{ℕ}
 use borrow.Author.Tests.{eq-eqb, ne-eqb}
 use Rattle.scan.specs.Byte.{same}
@@ -109,14 +109,14 @@ module _ (r : FileRules) (es : List Entry) {x : Option Role} where
   role-plain b k q = rw (eq-eqb (r .kind) 1 k) q
 
   module _ (n : r .kind ≢ 1) where
-    pub role-general : r .expected ≢ 0 → x ≡ some (unnamed 0) → x ≡ roleOf r true es
+    pub role-general : {b : Bool} → b ≡ true → r .expected ≢ 0 → x ≡ some (unnamed 0) → x ≡ roleOf r b es
     unfolding roleOf
-    role-general w q = rw (ne-eqb (r .kind) 1 n, ne-eqb (r .expected) 0 w) q
+    role-general p w q = rw (ne-eqb (r .kind) 1 n, p, ne-eqb (r .expected) 0 w) q
 
-    pub role-first : r .expected ≡ 0 → x ≡ namedRole es → x ≡ roleOf r true es
+    pub role-first : {b : Bool} → b ≡ true → r .expected ≡ 0 → x ≡ namedRole es → x ≡ roleOf r b es
     unfolding roleOf namedRole
-    role-first w q = rw (ne-eqb (r .kind) 1 n, eq-eqb (r .expected) 0 w) q
+    role-first p w q = rw (ne-eqb (r .kind) 1 n, p, eq-eqb (r .expected) 0 w) q
 
-    pub role-later : x ≡ namedRole es → x ≡ roleOf r false es
+    pub role-later : {b : Bool} → b ≡ false → x ≡ namedRole es → x ≡ roleOf r b es
     unfolding roleOf namedRole
-    role-later q = rw (ne-eqb (r .kind) 1 n) q
+    role-later p q = rw (ne-eqb (r .kind) 1 n, p) q

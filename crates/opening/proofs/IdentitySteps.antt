@@ -1,6 +1,6 @@
 -- An identity by its parts, in the code's order.
-use mathlib.Core.Path.{_≡_, refl, sym, ap, _∙_}
-use mathlib.Core.Bool.{Bool, true, false}
+use mathlib.Core.Path.{_≡_, refl, sym, ap}
+use mathlib.Core.Bool.{true, false}
 use mathlib.Core.List.{List, [], _∷_}
 use mathlib.Core.Option.{Option, none, some, Option·map, Option·some-injective}
 use Prim.Native.Nat.{ℕ, _-_, _≤_, _<_}
@@ -21,7 +21,6 @@ use Rattle.text.specs.Number.{wholeNumber}
 use Rattle.blocks.specs.Reading.{atLeast, afterPrefix, memoryOf, identityBy, instanceBy, imageBy, identityOf}
 use Rattle.blocks.specs.declared.Identity.{Identity}
 use Rattle.opening.specs.Answers.{namedIdentity}
-use Rattle.opening.specs.declared.values.Named.{Named}
 use Rattle.opening.specs.declared.values.Named.the-variants.{Of, Invalid}
 
 -- The rest of a list, as code that takes a part of a slice says it.

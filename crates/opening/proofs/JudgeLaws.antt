@@ -1,19 +1,18 @@
 -- The judging of a header, part by part, on plain values: what a search among its statements says of its entries.
 use mathlib.Core.Path.{_≡_, refl, sym, ap, _∙_}
-use mathlib.Core.Bool.{Bool, true, false, cond, _&&_, not}
+use mathlib.Core.Bool.{Bool, true, false}
 use mathlib.Core.Logic.{_≢_}
-use mathlib.Core.List.{List, [], _∷_}
-use mathlib.Core.Option.{Option, none, some, Option·map}
-use Prim.Native.Nat.{ℕ, zero, _+_, _%_}
+use mathlib.Core.List.{List, []}
+use mathlib.Core.Option.{Option, none, some}
+use Prim.Native.Nat.{ℕ, _%_}
 use native.Mathlib.Nat.{mod-zero}
 use borrow.Author.Tests.{eq-eqb, ne-eqb}
-use lib.Dec.{eqb}
-use Rattle.scan.specs.Outcome.{isSome, isNone}
+use Rattle.scan.specs.Outcome.{isSome}
 use Rattle.text.specs.Fold.{fold, foldTable}
 use Rattle.text.specs.Key.{strip, keyOf}
 use Rattle.text.specs.Number.{wholeNumber}
 use Rattle.text.specs.Whitespace.{whitespace}
-use Rattle.header.specs.Entry.{Entry, value, entries, lookup, valueIn}
+use Rattle.header.specs.Entry.{Entry, value, lookup, valueIn}
 use Rattle.header.specs.Lookup.{firstStatement}
 use Rattle.header.specs.Statements.{leadingStatements}
 use Rattle.header.specs.declared.Statement.{Statement}
@@ -127,10 +126,10 @@ module _ (kind : ℕ) (es : List Entry) (k : List ℕ) where
 
 -- ---- The length of a header
 
-module _ (r : FileRules) (es : List Entry) (length : ℕ) where
-  pub mod-of-zero : r .boundary ≡ 0 → length % r .boundary ≡ length
-  mod-of-zero e = rw e (mod-zero length)
+pub mod-of-zero : (n b : ℕ) → b ≡ 0 → n % b ≡ n
+mod-of-zero n b e = ap (λ (k : ℕ). n % k) e ∙ mod-zero n
 
+module _ (r : FileRules) (es : List Entry) (length : ℕ) where
   pub length-uneven : length % r .boundary ≢ 0 → false ≡ lengthAllowed r es length
   unfolding lengthAllowed
   length-uneven n = rw (ne-eqb (length % r .boundary) 0 n)
@@ -139,3 +138,8 @@ module _ (r : FileRules) (es : List Entry) (length : ℕ) where
       → b ≡ lengthAllowed r es length
   unfolding lengthAllowed
   length-even e q = rw (eq-eqb (length % r .boundary) 0 e) q
+
+-- The boundary that a general header gives.
+pub boundary-number : (es : List Entry) {x : Option ℕ} → x ≡ numberOr 512 1 (valueIn (keyOf BoundaryKey) (counting es))
+    → x ≡ numberOr 512 1 (valueIn BoundaryKey (counting es))
+boundary-number es q = q ∙ ap (λ (k : List ℕ). numberOr 512 1 (valueIn k (counting es))) (folded .boundary)

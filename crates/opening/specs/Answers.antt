@@ -2,7 +2,13 @@
 use mathlib.Core.Option.{Option, none, some}
 use Prim.Native.Nat.{ℕ}
 use lib.IntN.{ℤ}
+use Rattle.blocks.specs.declared.FileRules.{FileRules}
 use Rattle.blocks.specs.declared.Identity.{Identity}
+use Rattle.blocks.specs.declared.Role.{Role}
+use Rattle.opening.specs.declared.judge.Roled.{Roled}
+use Rattle.opening.specs.declared.judge.Roled.the-variants as roled
+use Rattle.opening.specs.declared.judge.Ruled.{Ruled}
+use Rattle.opening.specs.declared.judge.Ruled.the-variants as ruled
 use Rattle.opening.specs.declared.values.Count.{Count}
 use Rattle.opening.specs.declared.values.Count.the-variants as count
 use Rattle.opening.specs.declared.values.Identified.{Identified}
@@ -25,3 +31,13 @@ abbrev pub namedIdentity : Option ℤ → Named → Option Identity
 namedIdentity none n = none
 namedIdentity (some z) (named.Of instance memory) = some (record { sequence = z; instance = instance; memory = memory })
 namedIdentity (some z) named.Invalid = none
+
+-- The rules that a first header gives, if it keeps its own.
+abbrev pub ruledOption : Ruled → Option FileRules
+ruledOption (ruled.By r) = some r
+ruledOption ruled.Broken = none
+
+-- The role that a header gives, if it keeps the rules for it.
+abbrev pub roledOption : Roled → Option Role
+roledOption (roled.As r) = some r
+roledOption roled.Broken = none

@@ -1,9 +1,8 @@
 -- `opening::keys::is_edf_key` meets its contract. The invariant: what is left of the key starts with what is left of `edf_`
 -- just when the key starts with `edf_`.
-use mathlib.Core.Path.{_≡_, refl, sym, _∙_}
-use Prim.Native.Nat.{_-_, _≤_, _<_}
+use mathlib.Core.Path.{_≡_, sym, _∙_}
+use Prim.Native.Nat.{_-_}
 use native.Mathlib.Omega.{arith}
-use lib.ListN.{length}
 use Rattle.scan.specs.Search.{firstFrom}
 use Rattle.scan.specs.declared.Found.the-variants.{At}
 use Rattle.text.specs.Key.{keyOf}

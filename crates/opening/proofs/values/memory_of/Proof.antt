@@ -1,7 +1,7 @@
 -- `opening::values::memory_of` meets its contract.
 use mathlib.Core.Path.{_≡_, sym, ap, _∙_}
-use mathlib.Core.Option.{none, some}
-use lib.IntN.{ℤ, pos}
+use mathlib.Core.Option.{some}
+use lib.IntN.{pos}
 use lib.ListN.{drop}
 use mir.Syntax.{w64}
 use mir.Val.{SFits}
