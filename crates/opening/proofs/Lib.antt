@@ -1,3 +1,4 @@
+pub mod BlockSteps
 pub mod CountingLaws
 pub mod EdfKeys
 pub mod EntryLaws

@@ -1,4 +1,5 @@
 pub mod Answers
+pub mod Blocks
 pub mod Core
 pub mod Counting
 pub mod Entries
