@@ -1,23 +1,24 @@
 -- The judging of one block, step by step, on plain values.
-use mathlib.Core.Path.{_≡_, refl, sym, ap, subst, _∙_}
+use mathlib.Core.Path.{_≡_, sym, ap, subst, _∙_}
 use mathlib.Core.Bool.{Bool, true, false}
 use mathlib.Core.List.{List}
-use mathlib.Core.Option.{Option, none, some}
-use Prim.Native.Nat.{ℕ, suc, _+_, _≤_, _<_}
+use mathlib.Core.Option.{none, some}
+use Prim.Native.Nat.{ℕ, _+_, _-_, _≤_}
 use native.Mathlib.Numerals.{add-one}
+use native.Mathlib.Omega.{arith}
+use borrow.Author.Tests.{le-leb, lt-leb, leb-true}
 use lib.Dec.{leb}
+use lib.IntN.{ℤ}
 use lib.ListN.{length, take}
 use Rattle.scan.specs.Outcome.{Outcome, ok, failed, refused, isNone}
 use Rattle.scan.specs.declared.Error.{Error}
-use Rattle.scan.proofs.Cases.{by-outcome, ok-failed}
+use Rattle.scan.proofs.Cases.{by-order}
 use Rattle.header.specs.Checks.{statementsChecked}
-use Rattle.header.specs.Entry.{Entry, bodyOf, entries, valueIn}
+use Rattle.header.specs.Entry.{Entry, valueIn}
 use Rattle.header.specs.Frame.{headerAt}
-use Rattle.header.specs.Statements.{leadingStatements, statementsOf}
 use Rattle.header.specs.declared.Header.{Header}
-use Rattle.header.specs.declared.Statement.{Statement}
 use Rattle.header.proofs.Checks.{Checks, checked-says}
-use Rattle.blocks.specs.Judging.{rulesOf, roleOf, isWholeOrAbsent, lengthAllowed, rowWith, judged, rulesFor, blockAt}
+use Rattle.blocks.specs.Judging.{rulesOf, roleOf, isWholeOrAbsent, lengthAllowed, judged, blockAt}
 use Rattle.blocks.specs.Keys.{FileNameKey, HeaderSizeKey, countingIn, sizeValue}
 use Rattle.blocks.specs.Reading.{numberOr}
 use Rattle.blocks.specs.declared.Accepted.{Accepted}
@@ -58,10 +59,38 @@ module _ (r : FileRules) (b : Bool) (end start header : ℕ) (es : List Entry) w
             unfolding judged
             too-far u = rw (sym e, sym f, w, n, l, u)
 
-            pub accepted : leb (start + header + size) end ≡ true
-                → ok (record { row = rowWith start header size role; next = start + header + size; rules = r }) ≡ judged r b end start header es
+            -- The signed numbers of the row as the code holds them.
+            pub accepted : leb (start + header + size) end ≡ true → {z m : ℤ} → z ≡ role .identity .sequence → m ≡ role .identity .memory
+                → ok (record {
+                  row = record {
+                    start = start;
+                    header = header;
+                    size = size;
+                    kind = role .kind;
+                    sequence = z;
+                    instance = role .identity .instance;
+                    memory = m;
+                  };
+                  next = start + header + size;
+                  rules = r;
+                })
+                ≡ judged r b end start header es
             unfolding judged
-            accepted u = rw (sym e, sym f, w, n, l, u)
+            accepted u p q =
+                rw (sym e, sym f, w, n, l, u)
+                (λ i. ok (record {
+                  row = record {
+                    start = start;
+                    header = header;
+                    size = size;
+                    kind = role .kind;
+                    sequence = p i;
+                    instance = role .identity .instance;
+                    memory = q i;
+                  };
+                  next = start + header + size;
+                  rules = r;
+                }))
 
 -- ---- With the rules that the first header gives
 
@@ -98,10 +127,22 @@ module _ (s : List ℕ) (given : FileRules) (b : Bool) (start : ℕ) (h : Header
 
   -- ---- After the frame
 
-  pub unframed : {x : Error} → failed x ≡ headerAt s start → failed x ≡ blockAt s given b start
-  unfolding blockAt
-  unframed e = rw (sym e)
-
   pub framed : ok h ≡ headerAt s start → {x : Outcome Accepted} → x ≡ parsedBlock s given b start h → x ≡ blockAt s given b start
   unfolding blockAt parsedBlock ruledBlock
   framed e q = rw (sym e) q
+
+pub unframed : (s : List ℕ) (given : FileRules) (b : Bool) (start : ℕ) {x : Error} → failed x ≡ headerAt s start → failed x ≡ blockAt s given b start
+unfolding blockAt
+unframed s given b start e = rw (sym e)
+
+-- ---- Inside the file
+
+-- What is left after the start and the header holds the data exactly if the block ends inside.
+pub fits-rest : (start header size end : ℕ) → start ≤ end → header ≤ end - start → leb size (end - start - header) ≡ leb (start + header + size) end
+fits-rest start header size end h k =
+    by-order size (end - start - header)
+    (λ l. le-leb size (end - start - header) l ∙ sym (le-leb (start + header + size) end (omega arith)))
+    (λ l. lt-leb size (end - start - header) l ∙ sym (lt-leb (start + header + size) end (omega arith)))
+
+pub room : (n end : ℕ) → leb n end ≡ true → n ≤ end
+room n end e = leb-true n end e

@@ -2,9 +2,13 @@
 use mathlib.Core.Option.{Option, none, some}
 use Prim.Native.Nat.{ℕ}
 use lib.IntN.{ℤ}
+use Rattle.scan.specs.Outcome.{Outcome, ok, failed}
+use Rattle.blocks.specs.declared.Accepted.{Accepted}
 use Rattle.blocks.specs.declared.FileRules.{FileRules}
 use Rattle.blocks.specs.declared.Identity.{Identity}
 use Rattle.blocks.specs.declared.Role.{Role}
+use Rattle.opening.specs.declared.block.Judged.{Judged}
+use Rattle.opening.specs.declared.block.Judged.the-variants as judged
 use Rattle.opening.specs.declared.judge.Roled.{Roled}
 use Rattle.opening.specs.declared.judge.Roled.the-variants as roled
 use Rattle.opening.specs.declared.judge.Ruled.{Ruled}
@@ -41,3 +45,8 @@ ruledOption ruled.Broken = none
 abbrev pub roledOption : Roled → Option Role
 roledOption (roled.As r) = some r
 roledOption roled.Broken = none
+
+-- The block that was accepted, or the error.
+abbrev pub judgedOutcome : Judged → Outcome Accepted
+judgedOutcome (judged.Block a) = ok a
+judgedOutcome (judged.Failed e) = failed e

@@ -1,4 +1,5 @@
 // Opening a file: block by block, the rows in an array of this function.
+pub mod block;
 pub mod judge;
 pub mod keys;
 pub mod values;
