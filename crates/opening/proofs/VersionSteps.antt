@@ -1,32 +1,17 @@
--- A version by its parts: the digits in front one after another, then the tests in the code's order.
-use mathlib.Core.Path.{_≡_, _∙_}
-use mathlib.Core.Bool.{Bool, true, false}
+-- A version by its parts, in the code's order.
+use mathlib.Core.Path.{_≡_}
+use mathlib.Core.Bool.{true, false}
 use mathlib.Core.List.{List}
 use Prim.Native.Nat.{ℕ, _+_, _-_, _≤_, _<_}
-use native.Mathlib.Numerals.{add-one}
 use native.Mathlib.Omega.{arith}
 use borrow.Author.Tests.{le-leb, lt-leb, eq-eqb, ne-eqb}
 use lib.Dec.{leb}
-use lib.ListN.{length, take, drop, drop-of-length-le}
-use lib.Seq.{drop-cons}
+use lib.ListN.{length, take}
 use Rattle.scan.specs.Byte.{byte}
 use Rattle.scan.specs.Search.{is}
 use Rattle.text.specs.Number.{digit}
 use Rattle.text.specs.Text.{every}
 use Rattle.blocks.specs.Reading.{isVersion}
-
--- ---- A test of every byte from an offset on
-
-module _ (p : ℕ → Bool) (l : List ℕ) (i : ℕ) where
-  pub every-end : length l ≤ i → every p (drop i l) ≡ true
-  every-end h = rw (drop-of-length-le l h)
-
-  pub every-fails : i < length l → p (byte l i) ≡ false → every p (drop i l) ≡ false
-  every-fails h e = rw (drop-cons l i 0 h, e)
-
-  -- A turn of a loop that tests.
-  pub every-on : {r : Bool} → r ≡ every p (drop i l) → i < length l → p (byte l i) ≡ true → r ≡ every p (drop (i + 1) l)
-  every-on f h e = rw (add-one) (f ∙ rw (drop-cons l i 0 h, e))
 
 -- ---- Digits
 

@@ -171,10 +171,10 @@ fn memory_of(l: &[u8]) -> Whole
     let Whole::Number(z) = whole_number(&l[1..]) else {
         return Whole::Invalid;
     };
-    let Parts::Up(n) = apart(z) else {
+    let Parts::Up(m) = apart(z) else {
         return Whole::Invalid;
     };
-    if n < 2 {
+    if m < 2 {
         return Whole::Invalid;
     }
     Whole::Number(z)

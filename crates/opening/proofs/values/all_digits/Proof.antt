@@ -5,7 +5,7 @@ use borrow.Author.Tests.{not-true, not-false}
 use lib.ListN.{length, drop}
 use Rattle.text.specs.Number.{digit}
 use Rattle.text.specs.Text.{every}
-use Rattle.opening.proofs.VersionSteps.{every-end, every-fails, every-on}
+use Rattle.text.proofs.Escaping.{passes-here, fails-here, passed-all}
 use borrow.Author.Needs.{needs}
 use Rattle.opening.proofs.values.all_digits.Statement.{statement}
 use Rattle.opening.proofs.values.all_digits.Tie as tie
@@ -28,7 +28,7 @@ is-digit-requires c κs = search needs
 returns : tie.Need-returns Inv-loop μ-loop
 returns c =
     sym (c .before .before .before .before .loop .inv
-    ∙ every-fails digit _ _ (c .before .before .before .loop-test .taken) (sym (c .before .is-digit .ensures) ∙ not-true _ (c .if1 .taken)))
+    ∙ fails-here digit _ _ (c .before .before .before .loop-test .taken) (sym (c .before .is-digit .ensures) ∙ not-true _ (c .if1 .taken)))
 
 add-i : tie.Need-add-i Inv-loop μ-loop
 add-i c = search needs
@@ -37,10 +37,10 @@ loop-less : tie.Need-loop-less Inv-loop μ-loop
 loop-less c = search needs
 
 loop-again : tie.Need-loop-again Inv-loop μ-loop
-loop-again c = every-on digit _ _ (c .before .before .before .before .loop .inv) (c .before .before .before .loop-test .taken) (sym (c .before .is-digit .ensures) ∙ not-false _ (c .if1 .left))
+loop-again c = c .before .before .before .before .loop .inv ∙ passes-here digit _ _ (c .before .before .before .loop-test .taken) (sym (c .before .is-digit .ensures) ∙ not-false _ (c .if1 .left))
 
 returns-2 : tie.Need-returns-2 Inv-loop μ-loop
-returns-2 c = sym (c .before .loop .inv ∙ every-end digit _ _ (c .loop-test .left))
+returns-2 c = sym (c .before .loop .inv ∙ passed-all digit _ _ (c .loop-test .left))
 
 pub all-digits-spec : {M : Type 1} → statement M
 all-digits-spec =

@@ -5,7 +5,7 @@ use borrow.Author.Tests.{eq-eqb, ne-eqb}
 use lib.ListN.{length, drop}
 use Rattle.scan.specs.Search.{is}
 use Rattle.text.specs.Text.{every}
-use Rattle.opening.proofs.VersionSteps.{every-end, every-fails, every-on}
+use Rattle.text.proofs.Escaping.{passes-here, fails-here, passed-all}
 use borrow.Author.Needs.{needs}
 use Rattle.opening.proofs.values.all_zeros.Statement.{statement}
 use Rattle.opening.proofs.values.all_zeros.Tie as tie
@@ -23,7 +23,7 @@ shared-slice-read-if1 : tie.Need-shared-slice-read-if1 Inv-loop μ-loop
 shared-slice-read-if1 c = search needs
 
 returns : tie.Need-returns Inv-loop μ-loop
-returns c = sym (c .before .before .before .loop .inv ∙ every-fails (is 48) _ _ (c .before .before .loop-test .taken) (ne-eqb _ _ (c .if1 .taken)))
+returns c = sym (c .before .before .before .loop .inv ∙ fails-here (is 48) _ _ (c .before .before .loop-test .taken) (ne-eqb _ _ (c .if1 .taken)))
 
 add-i : tie.Need-add-i Inv-loop μ-loop
 add-i c = search needs
@@ -32,10 +32,10 @@ loop-less : tie.Need-loop-less Inv-loop μ-loop
 loop-less c = search needs
 
 loop-again : tie.Need-loop-again Inv-loop μ-loop
-loop-again c = every-on (is 48) _ _ (c .before .before .before .loop .inv) (c .before .before .loop-test .taken) (eq-eqb _ _ (c .if1 .left))
+loop-again c = c .before .before .before .loop .inv ∙ passes-here (is 48) _ _ (c .before .before .loop-test .taken) (eq-eqb _ _ (c .if1 .left))
 
 returns-2 : tie.Need-returns-2 Inv-loop μ-loop
-returns-2 c = sym (c .before .loop .inv ∙ every-end (is 48) _ _ (c .loop-test .left))
+returns-2 c = sym (c .before .loop .inv ∙ passed-all (is 48) _ _ (c .loop-test .left))
 
 pub all-zeros-spec : {M : Type 1} → statement M
 all-zeros-spec =

@@ -51,8 +51,8 @@ returns-3 c =
 apart-requires : tie.Need-apart-requires
 apart-requires c κs = search needs
 
-enum-known-n : tie.Need-enum-known-n
-enum-known-n c = search needs
+enum-known-m : tie.Need-enum-known-m
+enum-known-m c = search needs
 
 enum-told-2 : tie.Need-enum-told-2
 enum-told-2 c = search needs
@@ -70,8 +70,8 @@ returns-4 c =
     memory-number _ (c .before .before .before .before .before .before .before .before .if2 .left)
     (count-negative 2 _ (number (c .before .before .before)) (held _ _ _ (fits (c .before .before .before)) (c .before .before .apart .ensures .0) (c .enum-told2 .given .1)))
 
-up : (c : tie.After-n) → c .before .before .before .before .z .given .0 .0 ≡ pos (c .n .given .0 .0)
-up c = held _ _ _ (fits (c .before .before .before)) (c .before .before .apart .ensures .0) (c .n .given .1)
+up : (c : tie.After-m) → c .before .before .before .before .z .given .0 .0 ≡ pos (c .m .given .0 .0)
+up c = held _ _ _ (fits (c .before .before .before)) (c .before .before .apart .ensures .0) (c .m .given .1)
 
 returns-5 : tie.Need-returns-5
 returns-5 c =
@@ -97,7 +97,7 @@ memory-of-spec =
     enum-told
     returns-3
     apart-requires
-    enum-known-n
+    enum-known-m
     enum-told-2
     returns-4
     returns-5
