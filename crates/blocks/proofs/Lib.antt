@@ -5,6 +5,7 @@ pub mod Countings
 pub mod Declarations
 pub mod Errors
 pub mod Identities
+pub mod IdentityBack
 pub mod IdentityLaws
 pub mod KeyErrors
 pub mod Main

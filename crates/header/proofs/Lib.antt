@@ -6,6 +6,7 @@ pub mod FrameSteps
 pub mod HashLaws
 pub mod HeaderErrors
 pub mod KeyLaws
+pub mod Laid
 pub mod Leading
 pub mod LookupLaws
 pub mod OneStatement

@@ -7,7 +7,11 @@ pub mod Everys
 pub mod Folds
 pub mod KeySteps
 pub mod Numbers
+pub mod Padding
+pub mod Parts
+pub mod Quoted
 pub mod RoundTrip
 pub mod Signs
 pub mod Trims
 pub mod ValueSpans
+pub mod Words

@@ -1,0 +1,204 @@
+-- A written file's block describes as the frame that it was written from, and its title reads as the same text.
+use mathlib.Core.Path.{_≡_, refl, sym, ap, _∙_}
+use mathlib.Core.Bool.{true, not}
+use mathlib.Core.List.{List, [], _∷_, map}
+use mathlib.Core.Option.{Option, none, some, Option·map}
+use Prim.Native.Nat.{ℕ, zero, suc, _*_, _≤_}
+use native.Mathlib.Omega.{arith}
+use borrow.Author.Tests.{le-leb}
+use lib.Dec.{eqb}
+use lib.IntN.{pos}
+use lib.ListN.{length, getD, replicate, length-append}
+use mir.Syntax.{w64}
+use mir.Val.{SFits}
+use Rattle.scan.specs.Byte.{ascii}
+use Rattle.scan.specs.Outcome.{Outcome, ok, present, require, _>>=_, _>>_}
+use Rattle.scan.proofs.Cases.{none-some}
+use Rattle.text.specs.Decimal.{decimal}
+use Rattle.text.specs.Text.{escapedBody, quotedText, textOf, shortText}
+use Rattle.text.proofs.Decimals.{decimal-back}
+use Rattle.text.proofs.Everys.{Each}
+use Rattle.text.proofs.Parts.{each-head, each-tail}
+use Rattle.text.proofs.RoundTrip.{quotes-back, text-back}
+use Rattle.header.specs.Entry.{Entry}
+use Rattle.keyword.specs.Keyword.{lookupIn, entryOf, textIn}
+use Rattle.raster.specs.Axis.{configurations}
+use Rattle.raster.specs.Position.{product}
+use Rattle.raster.specs.Types.{Class, unsigned, signed, float}
+use Rattle.raster.proofs.Joined.{joined-length}
+use Rattle.raster.proofs.RoundTrip.{length-bytes}
+use Rattle.array.specs.Describe.{Values, valuesIn, dimsOf, wordsOf, offsetAllowed, described, descriptionIn, descriptionOf}
+use Rattle.array.specs.Fields.{wordField, rangeField, wholeField, foundFirst, dimsFrom, orEmpty}
+use Rattle.array.specs.declared.Description.{Description}
+use Rattle.writer.specs.File.{frameDims, frameType, pixelBytes, storedPixels, fileData, keywordsOf}
+use Rattle.writer.specs.Render.{padding, filled}
+use Rattle.writer.specs.declared.Frame.{Frame}
+use Rattle.writer.proofs.Allowed.{Within, Writes, dims-length}
+use Rattle.writer.proofs.Codes.{type-coded, order-coded}
+use Rattle.writer.proofs.Keywords.{Dims, one, two, three}
+use Rattle.writer.proofs.Viewed.{Looks, viewWith, dimText, written-view, written-looks}
+use Rattle.writer.proofs.Written.{Fits, valuesOf, rowOf, dims-shape}
+
+-- ---- The fields
+
+-- A decimal in a range.
+small : (n : ℕ) → n ≤ 1048576 → SFits w64 (pos n)
+small n h = record { sfits = omega arith }
+
+dims-read : (ds : List ℕ) → Each (Within 1 1048576) ds → dimsFrom (map (λ (d : ℕ). decimal (pos d)) ds) ≡ ok ds
+unfolding dimsFrom
+dims-read [] h = refl
+dims-read (d ∷ ds) h =
+    let r = each-head h in
+    rw (decimal-back (pos d) (small d (r .high)), le-leb 1 d (r .low), le-leb d 1048576 (r .high), dims-read ds (each-tail h))
+
+-- By what stands for Dim_1 to Dim_4.
+abbrev dimsBy : Option (List ℕ) → Option (List ℕ) → Option (List ℕ) → Option (List ℕ) → Outcome (List ℕ)
+dimsBy a b c d = do
+  ds ← dimsFrom (foundFirst (a ∷ b ∷ c ∷ []))
+  require (not (eqb (length (foundFirst (a ∷ b ∷ c ∷ d ∷ []))) 4)) 19 0
+  ok (orEmpty ds)
+
+dims-by : {ds : List ℕ} → Dims ds → Each (Within 1 1048576) ds → dimsBy (dimText ds 0) (dimText ds 1) (dimText ds 2) none ≡ ok ds
+unfolding foundFirst
+dims-by (one a) h = rw (dims-read (a ∷ []) h)
+dims-by (two a b) h = rw (dims-read (a ∷ b ∷ []) h)
+dims-by (three a b c) h = rw (dims-read (a ∷ b ∷ c ∷ []) h)
+
+few-configurations : (n : ℕ) → Within 1 3 n → configurations n ≤ 48
+unfolding configurations
+few-configurations zero h = absurd (omega (arith, h .low))
+few-configurations (suc zero) h = omega arith
+few-configurations (suc (suc zero)) h = omega arith
+few-configurations (suc (suc (suc zero))) h = omega arith
+few-configurations (suc (suc (suc (suc n)))) h = absurd (omega (arith, h .high))
+
+no-offset : (c : Class) → offsetAllowed c (pos 0) ≡ true
+unfolding offsetAllowed
+no-offset unsigned = refl
+no-offset signed = refl
+no-offset float = refl
+
+-- ---- The data
+
+-- A stored pixel is as wide as its type,
+pub pixel-length : (f : Frame) (pixels : List ℕ) (p : ℕ) → length (pixelBytes f pixels p) ≡ frameType f .width
+unfolding pixelBytes
+pixel-length f pixels p = length-bytes (f .byteorder) (frameType f .width) _
+
+-- the stored pixels are as long as the array,
+stored-length : (f : Frame) (pixels : List ℕ) → length (storedPixels f pixels) ≡ product (frameDims f) * frameType f .width
+unfolding storedPixels
+stored-length f pixels = joined-length (frameType f .width) _ (λ k. pixel-length f pixels _) (product (frameDims f))
+
+-- and filling makes them no shorter.
+enough-data : (f : Frame) (pixels : List ℕ) → product (frameDims f) * frameType f .width ≤ length (fileData f pixels)
+unfolding fileData filled
+enough-data f pixels = omega (arith, stored-length f pixels, length-append (storedPixels f pixels) (replicate (padding (length (storedPixels f pixels))) 0))
+
+-- ---- The description
+
+-- "the first n Dims with 1 past n", no orientation and no offset.
+abbrev pub descriptionFor : Frame → Description
+descriptionFor f =
+    record {
+      datatype = f .datatype;
+      byteorder = f .byteorder;
+      compression = 1;
+      n = f .n;
+      dim1 = getD (frameDims f) 0 1;
+      dim2 = getD (frameDims f) 1 1;
+      dim3 = getD (frameDims f) 2 1;
+      configuration = f .configuration;
+      orientation = 1;
+      offset = pos 0;
+    }
+
+module _ {f : Frame} {title pixels s : List ℕ} (w : Writes f title pixels s) where
+  abbrev look : Values
+  look = valuesIn (viewWith (rowOf f title pixels) (keywordsOf f title pixels))
+
+  looked : Looks look (valuesOf f pixels) (frameDims f) title
+  looked = written-looks w
+
+  words-are : wordsOf look ≡ ok (record { datatype = f .datatype; byteorder = f .byteorder; compression = 1 })
+  unfolding wordsOf wordField
+  words-are =
+      rw (looked .type, type-coded (f .datatype) (w .allowed .datatype) .code-is, looked .order, order-coded (f .byteorder) (w .allowed .byteorder) .code-is, looked .compression)
+
+  dims-are : dimsOf look ≡ ok (frameDims f)
+  unfolding dimsOf
+  dims-are =
+      (λ i. dimsBy (looked .dim-1 i) (looked .dim-2 i) (looked .dim-3 i) (looked .no-fourth i)) ∙ dims-by (dims-shape w) (w .allowed .dims)
+
+  configuration-is : rangeField 5 (configurations (length (frameDims f))) 1 (look (ascii "DataRasterConfiguration")) ≡ ok (f .configuration)
+  unfolding rangeField
+  configuration-is =
+      let c = w .allowed .configuration in
+      let e : length (frameDims f) ≡ f .n = dims-length (w .allowed) in
+      let few = few-configurations (f .n) (w .allowed .n) in
+      rw (
+        looked .configuration,
+        decimal-back (pos (f .configuration)) (small (f .configuration) (omega (arith, few, c .high))),
+        le-leb 1 (f .configuration) (c .low),
+        le-leb (f .configuration) (configurations (length (frameDims f))) (rw e (c .high)),
+      )
+
+  orientation-is : rangeField 6 (configurations (length (frameDims f))) 1 (look (ascii "RasterOrientation")) ≡ ok 1
+  unfolding rangeField
+  orientation-is = rw (looked .orientation)
+
+  offset-is : wholeField 7 (pos 0) (look (ascii "DataValueOffset")) ≡ ok (pos 0)
+  unfolding wholeField
+  offset-is = rw (looked .offset)
+
+  described-is : described look (length (fileData f pixels)) ≡ ok (descriptionFor f)
+  unfolding described
+  described-is =
+      let e : length (frameDims f) ≡ f .n = dims-length (w .allowed) in
+      rw (
+        words-are,
+        dims-are,
+        configuration-is,
+        orientation-is,
+        offset-is,
+        le-leb (product (frameDims f) * frameType f .width) (length (fileData f pixels)) (enough-data f pixels),
+        no-offset (frameType f .class),
+      )
+      (λ i. ok (record {
+        datatype = f .datatype;
+        byteorder = f .byteorder;
+        compression = 1;
+        n = e i;
+        dim1 = getD (frameDims f) 0 1;
+        dim2 = getD (frameDims f) 1 1;
+        dim3 = getD (frameDims f) 2 1;
+        configuration = f .configuration;
+        orientation = 1;
+        offset = pos 0;
+      }))
+
+  pub description-in : descriptionIn (viewWith (rowOf f title pixels) (keywordsOf f title pixels)) ≡ ok (descriptionFor f)
+  unfolding descriptionIn
+  description-in = described-is
+
+  module _ (fits : Fits f) where
+    pub description-is : descriptionOf s 0 ≡ ok (descriptionFor f)
+    unfolding descriptionOf
+    description-is = rw (written-view w fits) description-in
+
+    -- ---- The title
+
+    title-entry : (o : Option Entry) → Option·map (λ (e : Entry). e .value) o ≡ some (escapedBody title)
+        → (present o 16 0 >>= (λ (e : Entry). shortText (textOf (e .value)))) ≡ ok title
+    unfolding shortText quotedText
+    title-entry none e = absurd (none-some e)
+    title-entry (some x) e =
+        let value : x .value ≡ escapedBody title = cc in
+        let text : textOf (x .value) ≡ title = ap textOf (value ∙ sym (quotes-back (escapedBody title))) ∙ text-back title in
+        rw (text, le-leb (length title) 1023 (w .short))
+
+    pub title-is : textIn s 0 (ascii "Title") ≡ ok title
+    unfolding textIn entryOf
+    title-is =
+        rw (written-view w fits) (title-entry (lookupIn (viewWith (rowOf f title pixels) (keywordsOf f title pixels)) (ascii "Title")) (looked .title))

@@ -1,0 +1,9 @@
+pub mod Allowed
+pub mod Codes
+pub mod Described
+pub mod Keywords
+pub mod Main
+pub mod Pixels
+pub mod Rendered
+pub mod Viewed
+pub mod Written
