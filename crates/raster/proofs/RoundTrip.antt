@@ -11,23 +11,16 @@ use lib.IntN.{ℤ, pos, negsuc, natAbs, _+ℤ_}
 use lib.ListN.{length, length-reverse}
 use Rattle.raster.specs.Bytes.{highFirst, lowFirst, numberOf, highBytes, lowBytes, bytesOf}
 use Rattle.raster.specs.Element.{half, signedOf, bitsOf, nearest, offsetBits, elementBits, elementBytes}
+use Rattle.raster.specs.Strided.{Octets, turned}
 use Rattle.raster.specs.Types.{Class, unsigned, signed, float, DataType}
 use Rattle.raster.proofs.Elements.{orders-agree}
-
--- All of a list are bytes.
-abbrev pub Octets : List ℕ → Type 0
-Octets [] = Unit {0}
-Octets (b ∷ l) = (b < 256) × Octets l
 
 octets-onto : (l r : List ℕ) → Octets l → Octets r → Octets (reverseAux l r)
 octets-onto [] r h k = k
 octets-onto (b ∷ l) r (h, more) k = octets-onto l (b ∷ r) more (h, k)
 
--- A list, turned round where the flag is true: both orders are one, of the list as it stands or turned round.
-abbrev pub turned : Bool → List ℕ → List ℕ
-turned back l = cond back (reverse l) l
-
-octets-turned : (back : Bool) (l : List ℕ) → Octets l → Octets (turned back l)
+-- Both orders are one: low byte first, of the bytes as they stand or reversed.
+pub octets-turned : (back : Bool) (l : List ℕ) → Octets l → Octets (turned back l)
 octets-turned true l h = octets-onto l [] h tt
 octets-turned false l h = h
 
@@ -45,7 +38,7 @@ turned-other false l = refl
 
 -- ---- The low byte first
 
-low-bound : (l : List ℕ) → Octets l → lowFirst l < 256 ^ length l
+pub low-bound : (l : List ℕ) → Octets l → lowFirst l < 256 ^ length l
 unfolding lowFirst
 low-bound [] h = omega arith
 low-bound (b ∷ l) (h, more) = let k = low-bound l more in rw pow-suc (omega arith)
@@ -66,7 +59,7 @@ low-back (suc w) n h =
     let e = low-back w (n / 256) (omega arith) in
     omega arith
 
-low-length : (w n : ℕ) → length (lowBytes w n) ≡ w
+pub low-length : (w n : ℕ) → length (lowBytes w n) ≡ w
 unfolding lowBytes
 low-length zero n = refl
 low-length (suc w) n = ap suc (low-length w (n / 256))

@@ -15,7 +15,7 @@ use Rattle.blocks.proofs.Complete.{opened-complete}
 use Rattle.keyword.specs.Keyword.{textIn}
 use Rattle.raster.specs.Bytes.{numberOf}
 use Rattle.raster.specs.Pixels.{pixelOf}
-use Rattle.raster.proofs.RoundTrip.{Octets}
+use Rattle.raster.specs.Strided.{Octets}
 use Rattle.array.specs.Delivery.{dataOf, arrayOf, isOrder, arrayIn, isIndex, pixelIn}
 use Rattle.array.specs.Describe.{descriptionOf}
 use Rattle.writer.specs.File.{frameDims, frameType, fileData, keywordsOf, fileOf, writtenFile}

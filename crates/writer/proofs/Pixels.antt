@@ -12,7 +12,7 @@ use Rattle.raster.specs.Pixels.{pixelOf}
 use Rattle.raster.specs.Position.{product, storedPosition, linearPosition}
 use Rattle.raster.proofs.Inverse.{position-within, stored-back}
 use Rattle.raster.proofs.Joined.{joined-piece, joined-same, joined-rows, joined-list}
-use Rattle.raster.proofs.RoundTrip.{Octets}
+use Rattle.raster.specs.Strided.{Octets}
 use Rattle.raster.proofs.Stored.{octets-part, bits-back, bytes-back}
 use Rattle.array.specs.Delivery.{arrayDims, storedElement, deliveredElement, delivered, pixelAt}
 use Rattle.writer.specs.File.{frameDims, frameType, pixelBytes, storedPixels, fileData}

@@ -1,0 +1,4 @@
+pub mod Conversions
+pub mod Limits
+pub mod Signs
+pub mod Tables

@@ -1,0 +1,143 @@
+// How every element of an array is made, settled once for all of them.
+use offsets::shift::Shift;
+ghost use mathlib.Core.Path.{_≡_};
+ghost use mathlib.Core.Bool.{cond};
+ghost use Prim.Native.Nat.{_<_, _^_, min};
+ghost use lib.IntN.{pos, negsuc};
+ghost use Rattle.raster.specs.Strided.{Width};
+ghost use Rattle.raster.specs.Types.{typeOf};
+ghost use Rattle.offsets.specs.Shifting.{weight, integer, Shifts};
+ghost use Rattle.delivery.specs.Converting.{classNumber, differ, Converts};
+
+// An element of `width` bytes in the order with the code `order`, to be delivered in the order `asked`: with the offset of
+// `shift` added, if `adds`; else with its bytes reversed, if `reverses`; else as it stands.
+pub struct Conversion {
+    pub width: usize,
+    pub adds: bool,
+    pub reverses: bool,
+    pub order: u8,
+    pub asked: u8,
+    pub shift: Shift,
+}
+
+// By the code of a type: its width, and its class, 0 for unsigned, 1 for signed, 2 for float.
+const WIDTHS: [usize; 11] = [1, 1, 1, 2, 2, 4, 4, 4, 8, 8, 8];
+
+const CLASSES: [u8; 11] = [0, 0, 1, 0, 1, 0, 1, 2, 0, 1, 2];
+
+pub fn width_of(datatype: u8) -> usize
+    ensures { λ r. ⌜ r ≡ typeOf datatype .width ⌝ }
+{
+    let code = datatype as usize;
+    if code < 11 { WIDTHS[code] } else { 1 }
+}
+
+fn class_of(datatype: u8) -> u8
+    ensures { λ r. ⌜ r ≡ classNumber (typeOf datatype .class) ⌝ }
+{
+    let code = datatype as usize;
+    if code < 11 { CLASSES[code] } else { 0 }
+}
+
+// The weight of an element at the high end of 64 bits.
+fn weight_of(w: usize) -> u64
+    requires { ⌜ Width w ⌝ }
+    ensures { λ r. ⌜ r ≡ weight w ⌝ }
+{
+    if w == 8 {
+        return 1;
+    }
+    if w == 4 {
+        return 0x1_0000_0000;
+    }
+    if w == 2 {
+        return 0x1_0000_0000_0000;
+    }
+    0x100_0000_0000_0000
+}
+
+// Half of 64 bits, for signed values.
+fn flip_of(signed: bool) -> u64
+    ensures { λ r. ⌜ r ≡ cond signed (2 ^ 63) 0 ⌝ }
+{
+    if signed { 0x8000_0000_0000_0000 } else { 0 }
+}
+
+fn least(n: u64, m: u64) -> u64
+    ensures { λ r. ⌜ r ≡ min n m ⌝ }
+{
+    if n < m { n } else { m }
+}
+
+// To add n.
+fn shift_up(n: u64, signed: bool, w: usize) -> Shift
+    requires { ⌜ Width w ⌝ }
+    ensures { λ r. ⌜ Shifts (integer signed) w (pos n) r ⌝ }
+{
+    let k = weight_of(w);
+    let most = 0xffff_ffff_ffff_ffff / k;
+    let c = least(n, most) * k;
+    let flip = flip_of(signed);
+    let delta = std::num::wrapping_add_u64(c, flip);
+    Shift {
+        flip: flip,
+        low: 0,
+        high: most * k - c,
+        delta: delta,
+    }
+}
+
+// To take n + 1 away.
+fn shift_down(n: u64, signed: bool, w: usize) -> Shift
+    requires { ⌜ Width w ⌝ }
+    requires { ⌜ n < 2 ^ 63 ⌝ }
+    ensures { λ r. ⌜ Shifts (integer signed) w (negsuc n) r ⌝ }
+{
+    let k = weight_of(w);
+    let most = 0xffff_ffff_ffff_ffff / k;
+    let c = least(n + 1, most) * k;
+    let flip = flip_of(signed);
+    let delta = std::num::wrapping_add_u64(0xffff_ffff_ffff_ffff - c + 1, flip);
+    Shift {
+        flip: flip,
+        low: c,
+        high: most * k,
+        delta: delta,
+    }
+}
+
+fn shift_of(offset: i64, signed: bool, w: usize) -> Shift
+    requires { ⌜ Width w ⌝ }
+    ensures { λ r. ⌜ Shifts (integer signed) w offset r ⌝ }
+{
+    if offset >= 0 {
+        shift_up(offset as u64, signed, w)
+    } else {
+        shift_down((-1 - offset) as u64, signed, w)
+    }
+}
+
+// Whether one of the orders is the high byte first and the other is not.
+fn orders_differ(order: u8, asked: u8) -> bool
+    ensures { λ r. ⌜ r ≡ differ order asked ⌝ }
+{
+    if order == 1 { asked != 1 } else { asked == 1 }
+}
+
+pub fn conversion_of(datatype: u8, byteorder: u8, offset: i64, asked: u8) -> Conversion
+    ensures { λ r. ⌜ Converts (typeOf datatype) byteorder offset asked r ⌝ }
+{
+    let w = width_of(datatype);
+    let class = class_of(datatype);
+    let reverses = orders_differ(byteorder, asked);
+    let shift = shift_of(offset, class == 1, w);
+    let adds = class != 2 && offset != 0;
+    Conversion {
+        width: w,
+        adds: adds,
+        reverses: reverses,
+        order: byteorder,
+        asked: asked,
+        shift: shift,
+    }
+}

@@ -1,0 +1,99 @@
+-- `elements::rows::reversed` meets its contract: each way calls the loop for its width.
+use mathlib.Core.Path.{_≡_, refl, _∙_}
+use mathlib.Core.Bool.{true, false}
+use native.Mathlib.Omega.{arith}
+use borrow.Author.Needs.{needs}
+use lib.ListN.{length}
+use Rattle.raster.specs.Strided.{turned}
+use Rattle.elements.proofs.RowLaws.{asked, gave, width-one, either-order}
+use Rattle.elements.proofs.rows.reversed.Statement.{statement}
+use Rattle.elements.proofs.rows.reversed.Tie as tie
+
+reversed8-requires : tie.Need-reversed8-requires
+reversed8-requires c κs =
+    let t = c .before in
+    let s = t .before .before .before in
+    let a = s .args in
+    asked (a .w) 8 (a .at) (a .up) (a .down) (a .n) (length (a .src .now)) (length (a .out .now)) (t .if1 .taken) (s .pre .1 .0) (s .pre .1 .1)
+
+same-length : tie.Need-same-length
+same-length c = search needs
+
+returns : tie.Need-returns
+returns c =
+    let r = c .before .before in
+    let t = r .before .before in
+    let s = t .before .before .before in
+    let a = s .args in
+    gave (turned true) (a .w) 8 (a .src .now) (a .at) (a .up) (a .down) (a .n) _ (t .if1 .taken) (r .reversed8 .ensures)
+
+reversed4-requires : tie.Need-reversed4-requires
+reversed4-requires c κs =
+    let t = c .before in
+    let s = t .before .before .before .before in
+    let a = s .args in
+    asked (a .w) 4 (a .at) (a .up) (a .down) (a .n) (length (a .src .now)) (length (a .out .now)) (t .if2 .taken) (s .pre .1 .0) (s .pre .1 .1)
+
+same-length-2 : tie.Need-same-length-2
+same-length-2 c = search needs
+
+returns-2 : tie.Need-returns-2
+returns-2 c =
+    let r = c .before .before in
+    let t = r .before .before in
+    let s = t .before .before .before .before in
+    let a = s .args in
+    gave (turned true) (a .w) 4 (a .src .now) (a .at) (a .up) (a .down) (a .n) _ (t .if2 .taken) (r .reversed4 .ensures)
+
+reversed2-requires : tie.Need-reversed2-requires
+reversed2-requires c κs =
+    let t = c .before in
+    let s = t .before .before .before .before .before in
+    let a = s .args in
+    asked (a .w) 2 (a .at) (a .up) (a .down) (a .n) (length (a .src .now)) (length (a .out .now)) (t .if3 .taken) (s .pre .1 .0) (s .pre .1 .1)
+
+same-length-3 : tie.Need-same-length-3
+same-length-3 c = search needs
+
+returns-3 : tie.Need-returns-3
+returns-3 c =
+    let r = c .before .before in
+    let t = r .before .before in
+    let s = t .before .before .before .before .before in
+    let a = s .args in
+    gave (turned true) (a .w) 2 (a .src .now) (a .at) (a .up) (a .down) (a .n) _ (t .if3 .taken) (r .reversed2 .ensures)
+
+kept1-requires : tie.Need-kept1-requires
+kept1-requires c κs =
+    let t = c .before in
+    let s = t .before .before .before .before .before in
+    let a = s .args in
+    asked (a .w) 1 (a .at) (a .up) (a .down) (a .n) (length (a .src .now)) (length (a .out .now)) (width-one (s .pre .0) (t .before .before .if1 .left) (t .before .if2 .left) (t .if3 .left)) (s .pre .1 .0) (s .pre .1 .1)
+
+same-length-4 : tie.Need-same-length-4
+same-length-4 c = search needs
+
+returns-4 : tie.Need-returns-4
+returns-4 c =
+    let r = c .before .before in
+    let t = r .before .before in
+    let s = t .before .before .before .before .before in
+    let a = s .args in
+    gave (turned true) (a .w) 1 (a .src .now) (a .at) (a .up) (a .down) (a .n) _ (width-one (s .pre .0) (t .before .before .if1 .left) (t .before .if2 .left) (t .if3 .left)) (r .kept1 .ensures ∙ either-order (a .src .now) (a .at) (a .up) (a .down) (a .n))
+
+pub reversed-spec : {M : Type 1} → statement M
+reversed-spec =
+    tie.close
+    (tie.spec
+    reversed8-requires
+    same-length
+    returns
+    reversed4-requires
+    same-length-2
+    returns-2
+    reversed2-requires
+    same-length-3
+    returns-3
+    kept1-requires
+    same-length-4
+    returns-4)

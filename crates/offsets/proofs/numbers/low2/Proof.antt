@@ -1,0 +1,41 @@
+-- `offsets::numbers::low2` meets its contract.
+use native.Mathlib.Omega.{arith}
+use Rattle.raster.specs.Bytes.{lowFirst}
+use Rattle.offsets.proofs.Swaps.{low-read}
+use borrow.Author.Needs.{needs}
+use Rattle.offsets.proofs.numbers.low2.Statement.{statement}
+use Rattle.offsets.proofs.numbers.low2.Tie as tie
+
+array-read-wide : tie.Need-array-read-wide
+array-read-wide c = search needs
+
+wide-requires : tie.Need-wide-requires
+wide-requires c κs = search needs
+
+array-read-wide-2 : tie.Need-array-read-wide-2
+array-read-wide-2 c = search needs
+
+wide-requires-2 : tie.Need-wide-requires-2
+wide-requires-2 c κs = search needs
+
+mul-result : tie.Need-mul-result
+mul-result c = search needs
+
+add-result : tie.Need-add-result
+add-result c = search needs
+
+returns : tie.Need-returns
+unfolding lowFirst
+returns c = low-read 2 (c .before .before .args .t1) _ (search needs) (omega arith) (search needs, (search needs, tt))
+
+pub low2-spec : {M : Type 1} → statement M
+low2-spec =
+    tie.close
+    (tie.spec
+    array-read-wide
+    wide-requires
+    array-read-wide-2
+    wide-requires-2
+    mul-result
+    add-result
+    returns)

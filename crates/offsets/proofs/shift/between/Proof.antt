@@ -1,0 +1,15 @@
+-- `offsets::shift::between` meets its contract.
+use mathlib.Core.Logic.{⊎-elim}
+use native.Mathlib.Omega.{arith}
+use borrow.Author.Needs.{needs}
+use Rattle.offsets.proofs.shift.between.Statement.{statement}
+use Rattle.offsets.proofs.shift.between.Tie as tie
+
+returns : tie.Need-returns
+returns c = ⊎-elim (λ w. omega arith) (λ w. omega arith) (c .before .if1 .came)
+
+returns-2 : tie.Need-returns-2
+returns-2 c = ⊎-elim (λ w. omega arith) (λ w. omega arith) (c .before .if1 .came)
+
+pub between-spec : {M : Type 1} → statement M
+between-spec = tie.close (tie.spec returns returns-2)

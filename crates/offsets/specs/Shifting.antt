@@ -1,0 +1,43 @@
+-- What a `Shift` does to an element, and when it adds an offset.
+use mathlib.Core.Path.{_≡_}
+use mathlib.Core.Bool.{Bool, cond}
+use mathlib.Core.List.{List, reverse}
+use Prim.Native.Nat.{ℕ, _+_, _-_, _*_, _/_, _%_, _^_, _<_, min, max}
+use lib.Dec.{eqb}
+use lib.IntN.{ℤ}
+use Rattle.raster.specs.Bytes.{lowFirst, lowBytes, numberOf, bytesOf}
+use Rattle.raster.specs.Element.{offsetBits}
+use Rattle.raster.specs.Types.{Class, unsigned, signed}
+use Rattle.offsets.specs.declared.shift.Shift.{Shift}
+
+-- Of 64 bits.
+unfoldable pub shiftBy : Shift → ℕ → ℕ
+shiftBy s v = (min (s .high) (max (s .low) ((v + s .flip) % 2 ^ 64)) + s .delta) % 2 ^ 64
+
+-- The weight of an element of w bytes at the high end of 64 bits.
+abbrev pub weight : ℕ → ℕ
+weight w = 256 ^ (8 - w)
+
+-- 64 bits with their bytes reversed.
+unfoldable pub swapped : ℕ → ℕ
+swapped v = lowFirst (reverse (lowBytes 8 v))
+
+-- An element that was read low byte first, in its own byte order at the high end of 64 bits; and from there back, to be
+-- written low byte first. `k` is its weight.
+unfoldable pub alignedFrom : ℕ → ℕ → ℕ → ℕ
+alignedFrom order k x = cond (eqb order 1) (swapped x) (x * k)
+
+unfoldable pub restoredTo : ℕ → ℕ → ℕ → ℕ
+restoredTo asked k r = cond (eqb asked 1) (swapped r) (r / k)
+
+-- Of the bytes of an element.
+unfoldable pub shiftedBytes : ℕ → Shift → ℕ → ℕ → List ℕ → List ℕ
+shiftedBytes w s order asked l = bytesOf asked w (shiftBy s (numberOf order l * weight w) / weight w)
+
+-- The classes that an offset is added to.
+abbrev pub integer : Bool → Class
+integer isSigned = cond isSigned signed unsigned
+
+-- The shift adds the offset, to every number of w bytes.
+abbrev pub Shifts : Class → ℕ → ℤ → Shift → Type 0
+Shifts class w offset s = (n : ℕ) → n < 256 ^ w → shiftBy s (n * weight w) ≡ offsetBits class w offset n * weight w
