@@ -25,6 +25,13 @@ low-product h =
     let b : 4294883355 ≤ 4294883355 = omega arith in
     mul-le-mul a b
 
+pub scaled-fits : (h n : ℕ) → n < 4294967296 → h % 4294967296 * n < 18446744073709551616
+scaled-fits h n l =
+    let k : h % 4294967296 < 4294967296 = mod-lt h (omega arith) in
+    let a : h % 4294967296 ≤ 4294967295 = omega arith in
+    let b : n ≤ 4294967295 = omega arith in
+    omega (arith, mul-le-mul a b)
+
 pub high-half : (h : ℕ) → h < 18446744073709551616 → h / 4294967296 < 4294967296
 high-half h l = let k : 0 < 4294967296 = omega arith in div-lt-iff-lt-mul {x = h} {y = 4294967296} k .1 l
 

@@ -8,7 +8,6 @@ use Prim.Native.Nat.{ℕ, zero, suc, _+_, _≤_, _<_}
 use native.Mathlib.Numerals.{add-one}
 use native.Mathlib.Omega.{arith}
 use borrow.Author.Tests.{lt-ltb, le-ltb}
-use lib.Bits.{bitAnd}
 use lib.ListN.{length}
 use Rattle.scan.specs.Byte.{same}
 use Rattle.scan.proofs.Cases.{by-test}
@@ -104,55 +103,54 @@ module _ (s : List ℕ) where
 
 -- ---- The table and the comparison
 
-module _ (s : List ℕ) (from to mask : ℕ) (k l l′ : List ℕ) where
+module _ (s : List ℕ) (from to slots : ℕ) (k l l′ : List ℕ) where
   -- A key whose hash is not in a table that contains the others is none of them.
-  none-of : (ks : List (List ℕ)) → ContainsKeys mask l ks → (Contains l (slotOf mask (hashOf k)) (hashOf k) → ⊥) → false ≡ among k ks
+  none-of : (ks : List (List ℕ)) → ContainsKeys slots l ks → (Contains l (slotOf slots (hashOf k)) (hashOf k) → ⊥) → false ≡ among k ks
   none-of ks h n = sym (rejects (among-decides k ks) (λ m. n (h k m)))
 
   abbrev AtSlot : Bool → ℕ → Type 0
-  AtSlot r h = Inserted l l′ (bitAnd h mask) h r
+  AtSlot r h = Inserted l l′ (slotOf slots h) h r
 
-  at-slot : {h : ℕ} {r : Bool} → h ≡ hashOf k → AtSlot r h → Inserted l l′ (slotOf mask (hashOf k)) (hashOf k) r
-  unfolding slotOf
-  at-slot {h} {r} e a = subst (AtSlot r) e a
+  at-slot : {h q : ℕ} {r : Bool} → h ≡ hashOf k → q ≡ slotOf slots h → Inserted l l′ q h r → AtSlot r (hashOf k)
+  at-slot {h} {q} {r} e f a = subst (AtSlot r) e (subst (λ (x : ℕ). Inserted l l′ x h r) f a)
 
-  contained-more : {r : Bool} → Inserted l l′ (slotOf mask (hashOf k)) (hashOf k) r
-      → (ks : List (List ℕ)) → ContainsKeys mask l ks → ContainsKeys mask l′ (ks ++ (k ∷ []))
+  contained-more : {r : Bool} → Inserted l l′ (slotOf slots (hashOf k)) (hashOf k) r
+      → (ks : List (List ℕ)) → ContainsKeys slots l ks → ContainsKeys slots l′ (ks ++ (k ∷ []))
   contained-more a ks h j m =
       ⊎-elim (λ n. a .kept _ _ (h j n))
-      (λ n. subst (λ (x : List ℕ). Contains l′ (slotOf mask (hashOf x)) (hashOf x)) (sym (List·Memᴰ·eq-of-singleton n)) (a .contained))
+      (λ n. subst (λ (x : List ℕ). Contains l′ (slotOf slots (hashOf x)) (hashOf x)) (sym (List·Memᴰ·eq-of-singleton n)) (a .contained))
       (List·Memᴰ·append-cases ks m)
 
   -- The hash was not in the table.
-  pub key-new : {h : ℕ} → h ≡ hashOf k → Inserted l l′ (bitAnd h mask) h false → KeyInserted s from to mask k l l′ false
-  key-new e a = record {
-    repeated = λ ts c h. none-of (map (key s) ts) h (at-slot e a .new refl);
-    contained = contained-more (at-slot e a);
+  pub key-new : {h q : ℕ} → h ≡ hashOf k → q ≡ slotOf slots h → Inserted l l′ q h false → KeyInserted s from to slots k l l′ false
+  key-new e f a = record {
+    repeated = λ ts c h. none-of (map (key s) ts) h (at-slot e f a .new refl);
+    contained = contained-more (at-slot e f a);
   }
 
   -- It may have been, and the key was looked up.
-  pub key-looked-up : {h : ℕ} {q r : Bool} → h ≡ hashOf k → Inserted l l′ (bitAnd h mask) h q
-      → r ≡ startsBefore to (firstStatement s k (leadingStatements s from)) → KeyInserted s from to mask k l l′ r
-  key-looked-up e a b = record {
+  pub key-looked-up : {h q : ℕ} {p r : Bool} → h ≡ hashOf k → q ≡ slotOf slots h → Inserted l l′ q h p
+      → r ≡ startsBefore to (firstStatement s k (leadingStatements s from)) → KeyInserted s from to slots k l l′ r
+  key-looked-up e f a b = record {
     repeated = λ ts c h. b ∙ earlier-among s k from to ts c;
-    contained = contained-more (at-slot e a);
+    contained = contained-more (at-slot e f a);
   }
 
 -- ---- The loop over the statements
 
 -- The statements passed from `from` up to i have distinct keys, all in the table l.
-pub record Passed (s : List ℕ) (from mask : ℕ) (l : List ℕ) (i : ℕ) : Type 0 where
+pub record Passed (s : List ℕ) (from slots : ℕ) (l : List ℕ) (i : ℕ) : Type 0 where
   pub statements : List Statement
   pub chain : StatementsTo s from statements i
   pub distinct : Distinct (map (key s) statements)
-  pub contained : ContainsKeys mask l (map (key s) statements)
+  pub contained : ContainsKeys slots l (map (key s) statements)
 
 -- A table may hold anything at the start: what it lacks is what counts.
-pub passed-start : (s : List ℕ) (from mask : ℕ) (l : List ℕ) → Passed s from mask l from
-passed-start s from mask l =
+pub passed-start : (s : List ℕ) (from slots : ℕ) (l : List ℕ) → Passed s from slots l from
+passed-start s from slots l =
     record { statements = []; chain = refl; distinct = tt; contained = λ k m. absurd (List·Memᴰ·not-nil m) }
 
-module _ (s : List ℕ) (from mask : ℕ) (l : List ℕ) (i : ℕ) (p : Passed s from mask l i) where
+module _ (s : List ℕ) (from slots : ℕ) (l : List ℕ) (i : ℕ) (p : Passed s from slots l i) where
   abbrev Repeated : Bool
   Repeated = not (areDistinct (map (key s) (leadingStatements s from)))
 
@@ -177,17 +175,17 @@ module _ (s : List ℕ) (from mask : ℕ) (l : List ℕ) (i : ℕ) (p : Passed s
   passed-malformed e = none-left (leading-malformed s i e)
 
   module _ (t : Statement) (e : statementAt s i ≡ One t) (k : List ℕ) (is-key : k ≡ key s t) (l′ : List ℕ) where
-    among-passed : {r : Bool} → KeyInserted s from i mask k l l′ r → among (key s t) passedKeys ≡ r
+    among-passed : {r : Bool} → KeyInserted s from i slots k l l′ r → among (key s t) passedKeys ≡ r
     among-passed b = rw (sym is-key) (sym (b .repeated (p .statements) (p .chain) (p .contained)))
 
-    pub passed-repeated : KeyInserted s from i mask k l l′ true → true ≡ Repeated
+    pub passed-repeated : KeyInserted s from i slots k l l′ true → true ≡ Repeated
     passed-repeated b =
         let q = keys-are _ (leading-one s (statement-stands s i t e)) in
         let member = decided (among-decides (key s t) passedKeys) (among-passed b) in
         sym (ap not (rejects (distinct-decides (map (key s) (leadingStatements s from)))
         (λ d. distinct-not passedKeys (key s t) _ member (rw q at d))))
 
-    pub passed-more : KeyInserted s from i mask k l l′ false → Passed s from mask l′ (t .end + 1)
+    pub passed-more : KeyInserted s from i slots k l l′ false → Passed s from slots l′ (t .end + 1)
     passed-more b = record {
       statements = p .statements ++ (t ∷ []);
       chain = rw (add-one (t .end)) (chain-more (StatementFrom s) i (suc (t .end)) t (statement-stands s i t e) from (p .statements) (p .chain));

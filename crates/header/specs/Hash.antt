@@ -5,7 +5,7 @@ use mathlib.Core.Logic.{_≢_}
 use mathlib.Core.Bool.{Bool, false, cond}
 use mathlib.Core.List.{List, [], _∷_, List·Memᴰ}
 use Prim.Native.Nat.{ℕ, _+_, _*_, _/_, _%_, _≤_, _<_}
-use lib.Bits.{bitAnd, bitXor}
+use lib.Bits.{bitXor}
 use lib.ListN.{length, getD}
 use Rattle.text.specs.Fold.{fold}
 use Rattle.text.specs.Whitespace.{whitespace}
@@ -32,9 +32,9 @@ hashFrom h (b ∷ bs) = hashFrom (mixed h b) bs
 unfoldable pub hashOf : List ℕ → ℕ
 hashOf k = mixed (hashFrom 1 k) 0
 
--- The slot that a probe for a hash starts at.
+-- The slot that a probe for a hash starts at, of so many: the low half of the hash, scaled.
 unfoldable pub slotOf : ℕ → ℕ → ℕ
-slotOf mask h = bitAnd h mask
+slotOf slots h = h % 4294967296 * slots / 4294967296
 
 -- ---- The table
 
@@ -52,4 +52,4 @@ pub record Inserted (l l′ : List ℕ) (slot h : ℕ) (r : Bool) : Type 0 where
 
 -- The table contains the hash of each key of a list.
 abbrev pub ContainsKeys : ℕ → List ℕ → List (List ℕ) → Type 0
-ContainsKeys mask l ks = (k : List ℕ) → List·Memᴰ k ks → Contains l (slotOf mask (hashOf k)) (hashOf k)
+ContainsKeys slots l ks = (k : List ℕ) → List·Memᴰ k ks → Contains l (slotOf slots (hashOf k)) (hashOf k)

@@ -23,7 +23,7 @@ startsBefore to (some t) = ltb (t .first) to
 
 -- The key k of the statement at `to` was looked for among those of the statements from `from` up to it, with a table l that
 -- contains these, and inserted into the table, which is l′ now: r says whether it is one of them.
-pub record KeyInserted (s : List ℕ) (from to mask : ℕ) (k l l′ : List ℕ) (r : Bool) : Type 0 where
-  pub repeated : (ts : List Statement) → StatementsTo s from ts to → ContainsKeys mask l (map (key s) ts)
+pub record KeyInserted (s : List ℕ) (from to slots : ℕ) (k l l′ : List ℕ) (r : Bool) : Type 0 where
+  pub repeated : (ts : List Statement) → StatementsTo s from ts to → ContainsKeys slots l (map (key s) ts)
       → r ≡ among k (map (key s) ts)
-  pub contained : (ks : List (List ℕ)) → ContainsKeys mask l ks → ContainsKeys mask l′ (ks ++ (k ∷ []))
+  pub contained : (ks : List (List ℕ)) → ContainsKeys slots l ks → ContainsKeys slots l′ (ks ++ (k ∷ []))

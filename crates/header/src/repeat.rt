@@ -10,7 +10,7 @@ ghost use mathlib.Core.Bool.{not};
 ghost use mathlib.Core.List.{map};
 ghost use Rattle.text.specs.Key.{keyOf};
 ghost use Rattle.header.specs.Entry.{key};
-ghost use Rattle.header.specs.Hash.{mixed, mixedKeyByte, hashOf, Inserted};
+ghost use Rattle.header.specs.Hash.{mixed, mixedKeyByte, hashOf, slotOf, Inserted};
 ghost use Rattle.header.specs.Lookup.{firstStatement};
 ghost use Rattle.header.specs.Repeats.{startsBefore, KeyInserted};
 ghost use Rattle.header.specs.Statements.{leadingStatements, areDistinct};
@@ -52,6 +52,13 @@ fn hash_key(k: &[u8]) -> u64
     mix(h, 0)
 }
 
+// The slot that a probe for a hash starts at: the low half of the hash, scaled to the number of slots.
+fn slot_of(h: u64, slots: u32) -> usize
+    ensures { λ r. ⌜ r ≡ slotOf slots h ⌝ }
+{
+    (h % 4294967296 * (slots as u64) / 4294967296) as usize
+}
+
 // Inserts the hash `h` into the table, at the first empty slot from `slot` on, if it is not there. False: it was not there.
 // True: it was there, or the table is full, or `h` is 0, which no slot can hold.
 fn insert(table: &mut [u64], slot: usize, h: u64) -> bool
@@ -86,19 +93,18 @@ fn is_earlier(s: &[u8], from: usize, to: usize, k: &[u8]) -> bool
 }
 
 // Whether `k` is a key of the statements from `from` up to `to`, whose hashes the table contains. Now it contains that of `k`.
-fn insert_key(s: &[u8], from: usize, to: usize, k: &[u8], table: &mut [u64], mask: u64) -> bool
-    ensures { λ r. ⌜ KeyInserted (now (s .entry)) from to mask (keyOf (now (k .entry))) (now (table .entry)) (now (table .exit)) r ⌝ }
+fn insert_key(s: &[u8], from: usize, to: usize, k: &[u8], table: &mut [u64], slots: u32) -> bool
+    ensures { λ r. ⌜ KeyInserted (now (s .entry)) from to slots (keyOf (now (k .entry))) (now (table .entry)) (now (table .exit)) r ⌝ }
 {
     let h = hash_key(k);
-    let slot = (h & mask) as usize;
-    if insert(table, slot, h) {
+    if insert(table, slot_of(h, slots), h) {
         return is_earlier(s, from, to, k);
     }
     false
 }
 
 // With a table that is lent.
-fn has_repeated_key_in(s: &[u8], from: usize, table: &mut [u64], mask: u64) -> bool
+fn has_repeated_key_in(s: &[u8], from: usize, table: &mut [u64], slots: u32) -> bool
     ensures { λ r. ⌜ r ≡ not (areDistinct (map (key (now (s .entry))) (leadingStatements (now (s .entry)) from))) ⌝ }
 {
     let mut i = from;
@@ -113,7 +119,7 @@ fn has_repeated_key_in(s: &[u8], from: usize, table: &mut [u64], mask: u64) -> b
             Next::One(t) => {
                 let a = t.first;
                 let e = t.equals;
-                if insert_key(s, from, i, &s[a..e], table, mask) {
+                if insert_key(s, from, i, &s[a..e], table, slots) {
                     return true;
                 }
                 i = t.end + 1;
@@ -127,15 +133,15 @@ fn by_small_table(s: &[u8], from: usize) -> bool
     ensures { λ r. ⌜ r ≡ not (areDistinct (map (key (now (s .entry))) (leadingStatements (now (s .entry)) from))) ⌝ }
 {
     let mut table = [0u64; 2112];
-    has_repeated_key_in(s, from, &mut table, 2047)
+    has_repeated_key_in(s, from, &mut table, 2048)
 }
 
 // Here the last 512.
 fn by_large_table(s: &[u8], from: usize) -> bool
     ensures { λ r. ⌜ r ≡ not (areDistinct (map (key (now (s .entry))) (leadingStatements (now (s .entry)) from))) ⌝ }
 {
-    let mut table = [0u64; 33280];
-    has_repeated_key_in(s, from, &mut table, 32767)
+    let mut table = [0u64; 29184];
+    has_repeated_key_in(s, from, &mut table, 28672)
 }
 
 // Whether a key stands twice among the statements from `from` on. `s` ends where the body ends. A small header does not pay

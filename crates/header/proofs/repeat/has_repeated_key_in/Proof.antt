@@ -13,10 +13,10 @@ use Rattle.header.proofs.repeat.has_repeated_key_in.Statement.{statemen
 use Rattle.header.proofs.repeat.has_repeated_key_in.Tie as tie
 
 abbrev Inv-loop : tie.InvT-loop
-Inv-loop s from table₀ mask i₀ table i = (length table ≡ length table₀) × Passed s from mask table i
+Inv-loop s from table₀ slots i₀ table i = (length table ≡ length table₀) × Passed s from slots table i
 
 abbrev μ-loop : tie.MeasureT-loop
-μ-loop s from table₀ mask i₀ table i = length s - i
+μ-loop s from table₀ slots i₀ table i = length s - i
 
 loop-holds : tie.Need-loop-holds Inv-loop μ-loop
 loop-holds c = (refl, passed-start _ _ _ _)
