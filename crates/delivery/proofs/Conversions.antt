@@ -1,8 +1,8 @@
 -- A conversion makes of every element what is to be delivered.
 use mathlib.Core.Path.{_≡_, refl, sym, ap, subst, _∙_}
 use mathlib.Core.Bool.{Bool, true, false, cond, not}
-use mathlib.Core.List.{List, reverse, reverse-reverse}
-use Prim.Native.Nat.{ℕ, _*_, _/_, _^_, _-_, _≤_, _<_}
+use mathlib.Core.List.{List, reverse-reverse}
+use Prim.Native.Nat.{ℕ, _/_, _^_, _<_}
 use native.Mathlib.Nat.{mul-div-cancel}
 use native.Mathlib.Omega.{arith}
 use borrow.Author.Tests.{eq-eqb, ne-eqb, eqb-true}
@@ -17,7 +17,7 @@ use Rattle.raster.specs.Element.{offsetBits, elementBits, elementBytes}
 use Rattle.raster.specs.Strided.{Octets, turned, Width}
 use Rattle.raster.specs.Types.{Class, unsigned, signed, float, DataType}
 use Rattle.raster.proofs.RoundTrip.{number-bound, element-moved, float-offset}
-use Rattle.offsets.specs.Shifting.{shiftBy, weight, integer, Shifts, shiftedBytes}
+use Rattle.offsets.specs.Shifting.{weight, integer, Shifts, shiftedBytes}
 use Rattle.offsets.specs.declared.shift.Shift.{Shift}
 use Rattle.delivery.specs.Converting.{classNumber, differ, converted, Converts}
 use Rattle.delivery.specs.declared.conversion.Conversion.{Conversion}

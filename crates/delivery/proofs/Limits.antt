@@ -1,17 +1,16 @@
 -- The shift that adds an offset, from the numbers that the code has.
-use mathlib.Core.Path.{_≡_, refl, sym, ap, subst, _∙_}
-use mathlib.Core.Logic.{_⊎_, inl, inr}
+use mathlib.Core.Path.{_≡_, refl, sym, ap, _∙_}
+use mathlib.Core.Logic.{inl, inr}
 use mathlib.Core.Bool.{Bool, true, false, cond}
-use Prim.Native.Nat.{ℕ, zero, suc, _+_, _-_, _*_, _/_, _%_, _^_, _≤_, _<_, min}
+use Prim.Native.Nat.{ℕ, _+_, _-_, _*_, _/_, _%_, _^_, _≤_, _<_, min}
 use native.Mathlib.Nat.{add-mul, mul-assoc, mul-le-mul-right, div-mul-le-self, div-eq-of-lt-le, one-le-pow, zero-mul, mul-lt-mul-of-pos-right, pow-le-pow-right}
 use native.Mathlib.Numerals.{add-one}
 use native.Mathlib.Omega.{arith}
-use lib.IntN.{ℤ, pos, negsuc}
+use lib.IntN.{pos, negsuc}
 use Rattle.raster.specs.Element.{half}
 use Rattle.raster.specs.Strided.{Width}
 use Rattle.raster.proofs.RoundTrip.{two-halves}
 use Rattle.offsets.specs.Shifting.{weight, integer, Shifts}
-use Rattle.offsets.specs.declared.shift.Shift.{Shift}
 use Rattle.offsets.proofs.Sums.{flipOf}
 use Rattle.offsets.proofs.Scaling.{whole, sub-times, adds-up, adds-down}
 

@@ -1,15 +1,15 @@
 -- A buffer that is filled from its front, element by element or part by part.
 use mathlib.Core.Path.{_≡_, refl, sym, ap, subst, _∙_}
 use mathlib.Core.List.{List, [], _∷_, _++_, append-assoc, append-nil}
-use Prim.Native.Nat.{ℕ, zero, suc, _+_, _-_, _*_, _≤_, _<_}
+use Prim.Native.Nat.{ℕ, zero, suc, _+_, _*_, _≤_, _<_}
 use native.Mathlib.Nat.{not-suc-le-zero, le-of-suc-le-suc, le-antisymm, mul-zero, mul-suc, mul-le-mul-left}
 use native.Mathlib.Numerals.{add-one}
 use native.Mathlib.Omega.{arith}
-use lib.ListN.{length, take, drop, set, getD, length-append, length-take, length-drop, length-set, drop-of-length-le}
+use lib.ListN.{length, take, drop, set, getD, length-append, length-take, drop-of-length-le}
 use lib.Seq.{drop-drop, drop-cons, take-all, take-at, drop-at}
 use Rattle.scan.specs.Buffer.{over}
 use Rattle.raster.specs.Bytes.{joined}
-use Rattle.raster.specs.Strided.{patched, place, rowOf}
+use Rattle.raster.specs.Strided.{patched}
 
 -- ---- The bytes of one element, at any width: as code reads them and as it writes them
 

@@ -1,7 +1,7 @@
 -- The steps of a `Shift`, at the high end of 64 bits.
-use mathlib.Core.Path.{_≡_, refl, sym, ap, subst, _∙_}
-use mathlib.Core.Bool.{Bool, true, false, cond}
-use Prim.Native.Nat.{ℕ, zero, suc, _+_, _-_, _*_, _/_, _%_, _^_, _≤_, _<_, min, max}
+use mathlib.Core.Path.{_≡_, refl, sym, ap, _∙_}
+use mathlib.Core.Bool.{Bool, true, false}
+use Prim.Native.Nat.{ℕ, suc, _+_, _-_, _*_, _/_, _%_, _^_, _≤_, _<_, min, max}
 use native.Mathlib.Nat.{mul-comm, mul-assoc, add-mul, mul-sub, mul-le-mul-right, mul-lt-mul-of-pos-right, mod-lt, mod-eq-of-lt, div-add-mod', add-mul-mod-self-right, add-mod-mod, add-mod-right, one-le-pow}
 use native.Mathlib.Omega.{arith}
 use borrow.Author.Tests.{ltb-true, ltb-false}
@@ -11,7 +11,7 @@ use lib.Pow.{pow-add}
 use Rattle.raster.specs.Element.{offsetBits}
 use Rattle.offsets.specs.Shifting.{shiftBy, weight, integer, Shifts}
 use Rattle.offsets.specs.declared.shift.Shift.{Shift}
-use Rattle.offsets.proofs.Sums.{moved, moved-below, flipOf, offset-moved}
+use Rattle.offsets.proofs.Sums.{moved, flipOf, offset-moved}
 
 -- ---- Multiples of k
 

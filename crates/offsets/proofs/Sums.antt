@@ -1,14 +1,13 @@
 -- A sum set to the nearest value of its type is a few steps on numbers below M, with no sign.
-use mathlib.Core.Path.{_≡_, refl, sym, ap, subst, _∙_}
+use mathlib.Core.Path.{_≡_, refl, sym, ap, _∙_}
 use mathlib.Core.Bool.{Bool, true, false, cond}
-use Prim.Native.Nat.{ℕ, zero, suc, _+_, _-_, _*_, _/_, _%_, _^_, _≤_, _<_, min, max}
-use native.Mathlib.Nat.{add-zero, mod-eq-of-lt, mod-eq-sub-mod, add-mod-mod, add-mod-right}
+use Prim.Native.Nat.{ℕ, suc, _+_, _-_, _*_, _%_, _^_, _≤_, _<_, min}
+use native.Mathlib.Nat.{add-zero, mod-eq-of-lt, mod-eq-sub-mod}
 use native.Mathlib.Omega.{arith}
 use borrow.Author.Tests.{lt-ltb, le-ltb, ltb-true, ltb-false}
 use lib.Dec.{ltb}
 use lib.IntN.{ℤ, pos, negsuc, natAbs, _+ℤ_}
-use Rattle.raster.specs.Element.{half, signedOf, bitsOf, nearest, offsetBits}
-use Rattle.raster.specs.Types.{unsigned, signed}
+use Rattle.raster.specs.Element.{half, bitsOf, nearest, offsetBits}
 use Rattle.raster.proofs.RoundTrip.{two-halves}
 use Rattle.offsets.specs.Shifting.{integer}
 

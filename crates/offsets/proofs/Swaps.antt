@@ -1,13 +1,13 @@
 -- Elements at the high end of 64 bits, and from there back to bytes.
 use mathlib.Core.Path.{_≡_, refl, sym, ap, subst, _∙_}
 use mathlib.Core.Bool.{Bool, true, false, cond}
-use mathlib.Core.List.{List, [], _∷_, _++_, append-nil, reverse, reverse-append, reverse-reverse}
+use mathlib.Core.List.{List, [], _∷_, _++_, reverse, reverse-append, reverse-reverse}
 use Prim.Native.Nat.{ℕ, zero, suc, _+_, _-_, _*_, _/_, _%_, _^_, _≤_, _<_}
-use native.Mathlib.Nat.{zero-add, suc-add, mul-one, zero-mul, div-one, div-div-eq-div-mul, pow-succ', mul-assoc, mod-lt, mul-lt-mul-of-pos-right, one-le-pow}
+use native.Mathlib.Nat.{zero-add, suc-add, mul-one, div-one, div-div-eq-div-mul, pow-succ', mul-assoc, mod-lt, mul-lt-mul-of-pos-right, one-le-pow}
 use native.Mathlib.Omega.{arith}
 use lib.Dec.{eqb}
-use lib.ListN.{length, replicate, length-append, length-replicate, length-reverse}
-use Rattle.raster.specs.Bytes.{highFirst, lowFirst, numberOf, lowBytes, bytesOf}
+use lib.ListN.{length, replicate, length-reverse}
+use Rattle.raster.specs.Bytes.{highFirst, lowFirst, numberOf, lowBytes}
 use Rattle.raster.specs.Strided.{Octets, turned}
 use Rattle.raster.proofs.Elements.{orders-agree}
 use Rattle.raster.proofs.RoundTrip.{octets-turned, low-bound, low-length, bytes-turned, length-bytes}

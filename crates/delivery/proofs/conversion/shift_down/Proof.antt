@@ -1,9 +1,8 @@
 -- `delivery::conversion::shift_down` meets its contract.
-use mathlib.Core.Path.{_≡_, refl, sym, ap, subst, _∙_}
-use Prim.Native.Nat.{ℕ, _+_, _*_, _/_, _^_, _≤_, _<_}
+use mathlib.Core.Path.{refl}
+use Prim.Native.Nat.{_/_}
 use native.Mathlib.Omega.{arith}
 use borrow.Author.Needs.{needs}
-use native.Mathlib.Nat.{mul-le-mul-right}
 use Rattle.delivery.proofs.Limits.{width-some, some-weight, times-under, most-some, product-some, down-right}
 use Rattle.delivery.proofs.conversion.shift_down.Statement.{statement}
 use Rattle.delivery.proofs.conversion.shift_down.Tie as tie

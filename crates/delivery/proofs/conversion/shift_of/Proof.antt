@@ -1,10 +1,10 @@
 -- `delivery::conversion::shift_of` meets its contract: an offset is n, or -(n + 1).
-use mathlib.Core.Path.{_≡_, sym, ap, subst, _∙_}
+use mathlib.Core.Path.{sym, ap, subst, _∙_}
 use Prim.Native.Nat.{ℕ, _<_, _^_}
 use lib.IntN.{ℤ, pos, negsuc}
 use borrow.Author.Needs.{needs}
 use Rattle.offsets.specs.Shifting.{integer, Shifts}
-use Rattle.delivery.proofs.Signs.{not-below, Below, below}
+use Rattle.delivery.proofs.Signs.{not-below, below}
 use Rattle.delivery.proofs.conversion.shift_of.Statement.{statement}
 use Rattle.delivery.proofs.conversion.shift_of.Tie as tie
 

@@ -1,7 +1,6 @@
 -- `offsets::shift::between` meets its contract.
 use mathlib.Core.Logic.{⊎-elim}
 use native.Mathlib.Omega.{arith}
-use borrow.Author.Needs.{needs}
 use Rattle.offsets.proofs.shift.between.Statement.{statement}
 use Rattle.offsets.proofs.shift.between.Tie as tie
 
