@@ -13,7 +13,7 @@ use Rattle.blocks.specs.declared.Row.{Row}
 
 -- ---- The tests
 
-number-decides : (a b : ℤ) → Decides (a ≡ b) (sameNumber a b)
+pub number-decides : (a b : ℤ) → Decides (a ≡ b) (sameNumber a b)
 unfolding sameNumber
 number-decides (pos m) (pos n) = decides-by (ap pos) (λ e. cc) (eqb-decides m n)
 number-decides (pos m) (negsuc n) = fails (λ e. let z : _≡_ {A = ℕ} 0 1 = cc in omega arith)

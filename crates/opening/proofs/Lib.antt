@@ -6,5 +6,6 @@ pub mod FirstLaws
 pub mod IdentitySteps
 pub mod JudgeLaws
 pub mod NumberSteps
+pub mod Searches
 pub mod Turns
 pub mod VersionSteps

@@ -1,12 +1,12 @@
 -- A turn of the loop that opens a file, on plain values. The loop's rows are an array of which the first `count` count.
-use mathlib.Core.Path.{_≡_}
+use mathlib.Core.Path.{_≡_, sym, subst}
 use mathlib.Core.Bool.{true, false}
 use mathlib.Core.Logic.{_≢_}
 use mathlib.Core.List.{List}
 use Prim.Native.Nat.{ℕ, suc, _+_, _-_, _≤_}
 use native.Mathlib.Numerals.{add-one}
 use native.Mathlib.Omega.{arith}
-use borrow.Author.Tests.{eqb-true, eqb-false}
+use borrow.Author.Tests.{eq-eqb, ne-eqb, eqb-true, eqb-false}
 use lib.Dec.{eqb}
 use lib.ListN.{length, take, set}
 use lib.Seq.{take-suc-set, length-take-le}
@@ -19,7 +19,7 @@ use Rattle.blocks.specs.declared.Accepted.{Accepted}
 use Rattle.blocks.specs.declared.FileRules.{FileRules}
 use Rattle.blocks.specs.declared.Row.{Row}
 use Rattle.blocks.proofs.Steps.{step-done, step-count, step-full, step-failed, step-twice, step-on}
-use Rattle.opening.specs.Core.{stepOf}
+use Rattle.opening.specs.Core.{stepBy, stepOf}
 use Rattle.opening.specs.declared.Step.{Step}
 use Rattle.opening.specs.declared.Step.the-variants.{Block, Done, Failed}
 
@@ -44,6 +44,27 @@ step-is s count at r =
     (λ a b. rw (e, f, b) (block e (eqb-false count 256 f) b))
     (λ x b. rw (e, f, b) (broken e (eqb-false count 256 f) b))))
 
+-- ---- Each way out of a step
+
+module _ (s : List ℕ) (count at : ℕ) (r : FileRules) where
+  pub step-ends : ended count at (length s) ≡ true → countMatches (r .expected) count ≡ true → Done ≡ stepOf s count at r
+  unfolding stepOf
+  step-ends e c = rw (e, c)
+
+  pub step-miscounted : ended count at (length s) ≡ true → countMatches (r .expected) count ≡ false
+      → Failed (errorAt 15 0) ≡ stepOf s count at r
+  unfolding stepOf
+  step-miscounted e c = rw (e, c)
+
+  pub step-past : ended count at (length s) ≡ false → count ≡ 256 → Failed (errorAt 14 at) ≡ stepOf s count at r
+  unfolding stepOf
+  step-past e f = rw (e, eq-eqb count 256 f)
+
+  pub step-by : ended count at (length s) ≡ false → (count ≡ 256 → ⊥) → (x : Outcome Accepted)
+      → x ≡ blockAt s r (eqb count 0) at → stepBy x ≡ stepOf s count at r
+  unfolding stepOf
+  step-by e f x h = rw (e, ne-eqb count 256 f, sym h)
+
 -- ---- A turn
 
 -- The answer from where the loop stands.
@@ -58,7 +79,7 @@ module _ (s : List ℕ) (rows : List Row) (count at : ℕ) (r : FileRules) (few 
   fuel = omega arith
 
   -- What a step makes of it.
-  abbrev pub Turned : Step → Type 0
+  abbrev Turned : Step → Type 0
   Turned Done = answerFrom s rows count at r ≡ ok (take count rows)
   Turned (Failed e) = answerFrom s rows count at r ≡ failed e
   Turned (Block a) =
@@ -79,8 +100,22 @@ module _ (s : List ℕ) (rows : List Row) (count at : ℕ) (r : FileRules) (few 
             (step-on (256 - count) s (take count rows) at r (rw counted e) (rw counted f) here t)),
       )
 
-  pub turn : Turned (stepOf s count at r)
-  turn = turned (stepOf s count at r) (step-is s count at r)
+  turn : {x : Step} → stepOf s count at r ≡ x → Turned x
+  turn e = subst Turned e (turned (stepOf s count at r) (step-is s count at r))
+
+  pub turn-done : stepOf s count at r ≡ Done → answerFrom s rows count at r ≡ ok (take count rows)
+  turn-done e = turn e
+
+  pub turn-failed : {e : Error} → stepOf s count at r ≡ Failed e → answerFrom s rows count at r ≡ failed e
+  turn-failed e = turn e
+
+  pub turn-repeats : {a : Accepted} → stepOf s count at r ≡ Block a → repeats (take count rows) (a .row) ≡ true
+      → answerFrom s rows count at r ≡ refused 13 at
+  turn-repeats e = turn e .0
+
+  pub turn-on : {a : Accepted} → stepOf s count at r ≡ Block a → repeats (take count rows) (a .row) ≡ false
+      → answerFrom s rows count at r ≡ answerFrom s (set rows count (a .row)) (count + 1) (a .next) (a .rules)
+  turn-on e = turn e .1
 
 -- After a block fewer than 256 stand before it, and the next offset lies inside the file.
 pub block-before : (s : List ℕ) (count at : ℕ) (r : FileRules) (a : Accepted) → stepOf s count at r ≡ Block a → count ≢ 256

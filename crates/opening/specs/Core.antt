@@ -27,6 +27,10 @@ stepOf s count at r =
     cond (ended count at (length s)) (cond (countMatches (r .expected) count) Done (Failed (errorAt 15 0)))
     (cond (eqb count 256) (Failed (errorAt 14 at)) (stepBy (blockAt s r (eqb count 0) at)))
 
+-- How many of the rows before are searched for the identity of a row.
+abbrev pub searchedFor : Row → ℕ → ℕ
+searchedFor x count = cond (eqb (x .instance) 0) 0 count
+
 -- What the loop's answer says: the first rows of its array, or the error.
 abbrev pub told : Opened → List Row → Outcome (List Row)
 told (answer.Blocks n) rows = ok (take n rows)

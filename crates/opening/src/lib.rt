@@ -1,7 +1,10 @@
 // Opening a file: block by block, the rows in an array of this function.
 pub mod block;
+pub mod identity;
 pub mod judge;
 pub mod keys;
+pub mod run;
+pub mod steps;
 pub mod values;
 
 use blocks::Accepted;
