@@ -1,4 +1,5 @@
 pub mod Conversions
 pub mod Limits
+pub mod Planes
 pub mod Signs
 pub mod Tables

@@ -116,7 +116,8 @@ one [] h = refl
 one (x ∷ []) h = refl
 one (x ∷ y ∷ l) h = absurd (omega arith)
 
-pub either-order : (s : List ℕ) (at up down n : ℕ) → rowOf (turned false) 1 s at up down n ≡ rowOf (turned true) 1 s at up down n
+pub either-order : (w : ℕ) (s : List ℕ) (at up down n : ℕ) → w ≡ 1
+    → rowOf (turned false) w s at up down n ≡ rowOf (turned true) w s at up down n
 unfolding rowOf
-either-order s at up down n =
-    joined-same n _ _ (λ i h. one (take 1 (drop (place at up down i) s)) (simp length-take (omega arith)))
+either-order w s at up down n e =
+    joined-same n _ _ (λ i h. one (take w (drop (place at up down i) s)) (simp length-take (omega arith)))

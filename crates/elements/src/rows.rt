@@ -174,5 +174,5 @@ pub fn reversed(src: &[u8], w: usize, at: usize, up: usize, down: usize, n: usiz
         reversed2(src, at, up, down, n, out);
         return;
     }
-    kept1(src, at, up, down, n, out);
+    kept(src, w, at, up, down, n, out);
 }

@@ -1,5 +1,7 @@
 // Elements of an array: their types, their order in the file, their values.
 
+pub mod stride;
+
 // The value of one element.
 pub enum Pixel {
     Unsigned(u64),

@@ -62,12 +62,9 @@ returns-3 c =
     let a = s .args in
     gave (turned true) (a .w) 2 (a .src .now) (a .at) (a .up) (a .down) (a .n) _ (t .if3 .taken) (r .reversed2 .ensures)
 
-kept1-requires : tie.Need-kept1-requires
-kept1-requires c κs =
-    let t = c .before in
-    let s = t .before .before .before .before .before in
-    let a = s .args in
-    asked (a .w) 1 (a .at) (a .up) (a .down) (a .n) (length (a .src .now)) (length (a .out .now)) (width-one (s .pre .0) (t .before .before .if1 .left) (t .before .if2 .left) (t .if3 .left)) (s .pre .1 .0) (s .pre .1 .1)
+-- Elements of one byte.
+kept-requires : tie.Need-kept-requires
+kept-requires c κs = search needs
 
 same-length-4 : tie.Need-same-length-4
 same-length-4 c = search needs
@@ -78,7 +75,9 @@ returns-4 c =
     let t = r .before .before in
     let s = t .before .before .before .before .before in
     let a = s .args in
-    gave (turned true) (a .w) 1 (a .src .now) (a .at) (a .up) (a .down) (a .n) _ (width-one (s .pre .0) (t .before .before .if1 .left) (t .before .if2 .left) (t .if3 .left)) (r .kept1 .ensures ∙ either-order (a .src .now) (a .at) (a .up) (a .down) (a .n))
+    r .kept .ensures
+    ∙ either-order (a .w) (a .src .now) (a .at) (a .up) (a .down) (a .n)
+    (width-one (s .pre .0) (t .before .before .if1 .left) (t .before .if2 .left) (t .if3 .left))
 
 pub reversed-spec : {M : Type 1} → statement M
 reversed-spec =
@@ -93,6 +92,6 @@ reversed-spec =
     reversed2-requires
     same-length-3
     returns-3
-    kept1-requires
+    kept-requires
     same-length-4
     returns-4)

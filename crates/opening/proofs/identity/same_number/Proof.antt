@@ -1,6 +1,5 @@
 -- `opening::identity::same_number` meets its contract.
 use Rattle.opening.proofs.Searches.{same-bits}
-use borrow.Author.Needs.{needs}
 use Rattle.opening.proofs.identity.same_number.Statement.{statement}
 use Rattle.opening.proofs.identity.same_number.Tie as tie
 

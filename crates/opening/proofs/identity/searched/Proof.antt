@@ -1,6 +1,5 @@
 -- `opening::identity::searched` meets its contract.
 use borrow.Author.Tests.{eq-eqb, ne-eqb}
-use borrow.Author.Needs.{needs}
 use Rattle.opening.proofs.identity.searched.Statement.{statement}
 use Rattle.opening.proofs.identity.searched.Tie as tie
 

@@ -1,6 +1,5 @@
 -- `opening::steps::at_end` meets its contract.
 use borrow.Author.Tests.{eq-eqb, ne-eqb}
-use borrow.Author.Needs.{needs}
 use Rattle.opening.proofs.steps.at_end.Statement.{statement}
 use Rattle.opening.proofs.steps.at_end.Tie as tie
 

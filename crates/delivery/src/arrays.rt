@@ -1,0 +1,94 @@
+// The elements of an array in the order of their indices.
+use crate::conversion::Conversion;
+use crate::conversion::conversion_of;
+use elements::rows::kept;
+use elements::rows::reversed;
+use elements::rows::spot;
+use offsets::adding::added;
+use raster::stride::Steps;
+ghost use mathlib.Core.Path.{_≡_};
+ghost use Prim.Native.Nat.{_*_, _^_, _<_, _≤_};
+ghost use lib.ListN.{length};
+ghost use Rattle.scan.specs.Buffer.{over};
+ghost use Rattle.raster.specs.Strided.{Inside, Inside2, Inside3, Width, rowOf, planeOf, cubeOf, deliveredAt};
+ghost use Rattle.raster.specs.Types.{typeOf};
+ghost use Rattle.delivery.specs.Converting.{converted};
+
+// A row: by the loop for what its elements need.
+fn row(src: &[u8], c: Conversion, at: usize, up: usize, down: usize, n: usize, out: &mut [u8])
+    requires { ⌜ Width (c .width) ⌝ }
+    requires { ⌜ Inside at up down n (c .width) (length (now src)) ⌝ }
+    requires { ⌜ length (now out) ≡ c .width * n ⌝ }
+    ensures { λ _. ⌜ now (out .exit) ≡ rowOf (converted c) (c .width) (now (src .entry)) at up down n ⌝ }
+{
+    if c.adds {
+        let s = c.shift;
+        added(src, c.width, at, up, down, n, c.order, c.asked, s, out);
+        return;
+    }
+    if c.reverses {
+        reversed(src, c.width, at, up, down, n, out);
+        return;
+    }
+    kept(src, c.width, at, up, down, n, out);
+}
+
+// n2 rows, one after the other.
+fn plane(src: &[u8], c: Conversion, at: usize, t: Steps, n1: usize, n2: usize, out: &mut [u8])
+    requires { ⌜ Width (c .width) ⌝ }
+    requires { ⌜ Inside2 at (t .up1) (t .down1) n1 (t .up2) (t .down2) n2 (c .width) (length (now src)) ⌝ }
+    requires { ⌜ length (now out) ≡ c .width * n1 * n2 ⌝ }
+    ensures { λ _. ⌜ now (out .exit) ≡ planeOf (converted c) (c .width) (now (src .entry)) at (t .up1) (t .down1) n1 (t .up2) (t .down2) n2 ⌝ }
+{
+    let w = c.width;
+    let mut i = 0;
+    let mut o = 0;
+    while i < n2 {
+        let p = spot(at, t.up2, t.down2, i, 0, src.len());
+        let e = o + w * n1;
+        row(src, c, p, t.up1, t.down1, n1, &mut out[o..e]);
+        o = e;
+        i += 1;
+    }
+}
+
+// n3 planes, one after the other, at the front of `out`.
+fn cube(src: &[u8], c: Conversion, t: Steps, n1: usize, n2: usize, n3: usize, out: &mut [u8])
+    requires { ⌜ Width (c .width) ⌝ }
+    requires { ⌜ Inside3 t n1 n2 n3 (c .width) (length (now src)) ⌝ }
+    requires { ⌜ (c .width * n1 < 2 ^ 64) × (c .width * n1 * n2 * n3 ≤ length (now out)) ⌝ }
+    ensures { λ _. ⌜ now (out .exit) ≡ over (cubeOf (converted c) (c .width) (now (src .entry)) t n1 n2 n3) (now (out .entry)) ⌝ }
+{
+    let w = c.width;
+    let mut i = 0;
+    let mut o = 0;
+    while i < n3 {
+        let p = spot(t.at, t.up3, t.down3, i, 0, src.len());
+        let e = o + w * n1 * n2;
+        plane(src, c, p, t, n1, n2, &mut out[o..e]);
+        o = e;
+        i += 1;
+    }
+}
+
+// The array of the elements at the steps `t`, of the type with the code `datatype`, stored in the order `byteorder`: in the
+// order asked for and with the offset added, at the front of `out`. What follows there stays.
+pub fn deliver(
+    src: &[u8],
+    datatype: u8,
+    byteorder: u8,
+    offset: i64,
+    asked: u8,
+    t: Steps,
+    dim1: usize,
+    dim2: usize,
+    dim3: usize,
+    out: &mut [u8],
+)
+    requires { ⌜ Inside3 t dim1 dim2 dim3 (typeOf datatype .width) (length (now src)) ⌝ }
+    requires { ⌜ (typeOf datatype .width * dim1 < 2 ^ 64) × (typeOf datatype .width * dim1 * dim2 * dim3 ≤ length (now out)) ⌝ }
+    ensures { λ _. ⌜ now (out .exit) ≡ over (deliveredAt (typeOf datatype) byteorder offset asked (now (src .entry)) t dim1 dim2 dim3) (now (out .entry)) ⌝ }
+{
+    let c = conversion_of(datatype, byteorder, offset, asked);
+    cube(src, c, t, dim1, dim2, dim3, out);
+}
