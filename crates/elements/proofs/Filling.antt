@@ -95,7 +95,7 @@ length-joined (suc n) m f h =
     length-append (joined n f) (f n) ∙ (λ j. length-joined n m f (λ i k. h i (omega arith)) j + h n (omega arith) j) ∙ sym (mul-suc m n)
 
 -- A part of the buffer is replaced where p ends.
-over-part : (p q d l : List ℕ) (o k : ℕ) → l ≡ over p d → length p ≡ o → length q ≡ k → patched o k l q ≡ over (p ++ q) d
+pub over-part : (p q d l : List ℕ) (o k : ℕ) → l ≡ over p d → length p ≡ o → length q ≡ k → patched o k l q ≡ over (p ++ q) d
 over-part p q d l o k e n m =
     ap (λ (x : List ℕ). patched o k x q) e
     ∙ (λ j. take-at p (drop (length p) d) o n j ++ (q ++ drop k (drop-at p (drop (length p) d) o n j)))

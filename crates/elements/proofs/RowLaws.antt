@@ -7,13 +7,13 @@ use Prim.Native.Nat.{ℕ, zero, suc, _+_, _-_, _*_, _≤_, _<_}
 use native.Mathlib.Nat.{le-antisymm, zero-add, suc-add, mul-zero, mul-suc, zero-mul}
 use native.Mathlib.Numerals.{add-one}
 use native.Mathlib.Omega.{arith}
-use lib.ListN.{length, take, drop, set, getD, length-take, length-drop}
+use lib.ListN.{length, take, drop, set, getD, length-append, length-take, length-drop, drop-of-length-le}
 use lib.Seq.{take-suc, getD-drop, drop-length, drop-drop}
 use Rattle.scan.specs.Buffer.{over}
 use Rattle.raster.specs.Bytes.{joined}
 use Rattle.raster.specs.Strided.{turned, patched, place, Inside, Width, rowOf}
 use Rattle.raster.proofs.RoundTrip.{length-turned}
-use Rattle.elements.proofs.Filling.{over-set, joined-same, length-joined, piece-more, pieces-done}
+use Rattle.elements.proofs.Filling.{over-set, over-part, joined-same, length-joined, piece-more, pieces-done}
 
 -- The bytes of an element that stands inside are w.
 pub length-element : (w : ℕ) (s : List ℕ) (p : ℕ) → p + w ≤ length s → length (take w (drop p s)) ≡ w
@@ -121,3 +121,44 @@ pub either-order : (w : ℕ) (s : List ℕ) (at up down n : ℕ) → w ≡ 1
 unfolding rowOf
 either-order w s at up down n e =
     joined-same n _ _ (λ i h. one (take w (drop (place at up down i) s)) (simp length-take (omega arith)))
+
+-- A run in two parts: m times sixteen bytes, and what is left.
+module _ (s : List ℕ) (at m : ℕ) (d p : List ℕ) (room : 16 * m ≤ length d) (inside : length d ≤ length s - at)
+    (first : p ≡ rowOf (turned false) 16 s at 16 0 m) where
+  first-is : p ≡ take (16 * m) (drop at s)
+  first-is = first ∙ flat 16 s at m
+
+  first-length : length p ≡ 16 * m
+  first-length = ap length first-is ∙ simp (length-take, length-drop) (omega arith)
+
+  -- The buffer with the first part written.
+  begun : patched 0 (16 * m - 0) d p ≡ over p d
+  begun = let e : 16 * m - 0 ≡ length p = omega (arith, first-length) in ap (λ (i : ℕ). p ++ drop i d) e
+
+  begun-length : length (patched 0 (16 * m - 0) d p) ≡ length d
+  begun-length = ap length begun ∙ simp (length-append, length-drop) (omega (arith, first-length))
+
+  -- The length of the part that is lent then.
+  abbrev rest : ℕ
+  rest = length (take (length (patched 0 (16 * m - 0) d p) - 16 * m) (drop (16 * m) (patched 0 (16 * m - 0) d p)))
+
+  rest-is : rest ≡ length d - 16 * m
+  rest-is =
+      let b = patched 0 (16 * m - 0) d p in
+      let l : length b ≡ length d = begun-length in
+      length-element (length b - 16 * m) b (16 * m) (omega arith) ∙ ap (λ (k : ℕ). k - 16 * m) l
+
+  pub run-whole : (q : List ℕ) → q ≡ take rest (drop (at + 16 * m) s)
+      → patched (16 * m) (length (patched 0 (16 * m - 0) d p) - 16 * m) (patched 0 (16 * m - 0) d p) q ≡ take (length d) (drop at s)
+  run-whole q e =
+      let n = length d - 16 * m in
+      let t = drop at s in
+      let b : q ≡ take n (drop (16 * m) t) =
+      e ∙ ap (λ (k : ℕ). take k (drop (at + 16 * m) s)) rest-is ∙ ap (take n) (sym (drop-drop (16 * m) at s)) in
+      let lp = first-length in
+      let lq : length q ≡ n = ap length b ∙ simp (length-take, length-drop) (omega arith) in
+      let w : length d ≤ length (p ++ q) = simp length-append (omega arith) in
+      let z : 16 * m + n ≡ length d = omega arith in
+      over-part p q d _ (16 * m) (length (patched 0 (16 * m - 0) d p) - 16 * m) begun lp (omega (arith, begun-length))
+      ∙ ap (λ (x : List ℕ). (p ++ q) ++ x) (drop-of-length-le d {i = length (p ++ q)} w) ∙ append-nil (p ++ q)
+      ∙ (λ i. first-is i ++ b i) ∙ sym (take-add (16 * m) n t) ∙ ap (λ (i : ℕ). take i t) z

@@ -3,10 +3,12 @@ use crate::octets::get1;
 use crate::octets::get2;
 use crate::octets::get4;
 use crate::octets::get8;
+use crate::octets::get16;
 use crate::octets::put1;
 use crate::octets::put2;
 use crate::octets::put4;
 use crate::octets::put8;
+use crate::octets::put16;
 use crate::octets::reverse2;
 use crate::octets::reverse4;
 use crate::octets::reverse8;
@@ -115,8 +117,20 @@ fn reversed8(src: &[u8], at: usize, up: usize, down: usize, n: usize, out: &mut 
     }
 }
 
-// The bytes from `at` on: elements that stand one after another.
-fn run(src: &[u8], at: usize, out: &mut [u8])
+fn kept16(src: &[u8], at: usize, up: usize, down: usize, n: usize, out: &mut [u8])
+    requires { ⌜ Inside at up down n 16 (length (now src)) ⌝ }
+    requires { ⌜ length (now out) ≡ 16 * n ⌝ }
+    ensures { λ _. ⌜ now (out .exit) ≡ rowOf (turned false) 16 (now (src .entry)) at up down n ⌝ }
+{
+    let mut i = 0;
+    while i < n {
+        let p = spot(at, up, down, i, 16, src.len());
+        put16(out, 16 * i, get16(src, p));
+        i += 1;
+    }
+}
+
+fn bytes(src: &[u8], at: usize, out: &mut [u8])
     requires { ⌜ length (now out) ≤ length (now src) - at ⌝ }
     ensures { λ _. ⌜ now (out .exit) ≡ take (length (now (out .entry))) (drop at (now (src .entry))) ⌝ }
 {
@@ -125,6 +139,18 @@ fn run(src: &[u8], at: usize, out: &mut [u8])
         out[i] = src[at + i];
         i += 1;
     }
+}
+
+// The bytes from `at` on: elements that stand one after another. Sixteen at a time, since a loop over bytes is quick only
+// where the compiler can show, before the rows, that file and buffer lie apart.
+fn run(src: &[u8], at: usize, out: &mut [u8])
+    requires { ⌜ length (now out) ≤ length (now src) - at ⌝ }
+    ensures { λ _. ⌜ now (out .exit) ≡ take (length (now (out .entry))) (drop at (now (src .entry))) ⌝ }
+{
+    let m = out.len() / 16;
+    let h = 16 * m;
+    kept16(src, at, 16, 0, m, &mut out[0..h]);
+    bytes(src, at + h, &mut out[h..]);
 }
 
 // A row of elements as they stand, at any width: by the loop that is made for it.

@@ -1,56 +1,67 @@
--- `elements::rows::run` meets its contract. The invariant: the first i bytes are written.
-use mathlib.Core.Path.{_≡_, refl}
-use Prim.Native.Nat.{_-_, _≤_}
+-- `elements::rows::run` meets its contract: two parts of the buffer are written.
+use Prim.Native.Nat.{_/_}
 use native.Mathlib.Omega.{arith}
+use lib.ListN.{length}
+use Rattle.elements.proofs.RowLaws.{run-whole}
 use borrow.Author.Needs.{needs}
-use lib.ListN.{length, take, drop, length-set}
-use Rattle.scan.specs.Buffer.{over}
-use Rattle.elements.proofs.RowLaws.{run-more, run-done}
 use Rattle.elements.proofs.rows.run.Statement.{statement}
 use Rattle.elements.proofs.rows.run.Tie as tie
 
-abbrev Inv-loop : tie.InvT-loop
-Inv-loop src at out₀ i₀ out i = (i ≤ length out₀) × (length out ≡ length out₀) × (out ≡ over (take i (drop at src)) out₀)
+mul-h : tie.Need-mul-h
+mul-h c = search needs
 
-abbrev μ-loop : tie.MeasureT-loop
-μ-loop src at out₀ i₀ out i = length out₀ - i
+sub-kept16 : tie.Need-sub-kept16
+sub-kept16 c = search needs
 
-loop-holds : tie.Need-loop-holds Inv-loop μ-loop
-loop-holds c = (search needs, refl, refl)
+part-kept16-start : tie.Need-part-kept16-start
+part-kept16-start c = search needs
 
-add-out : tie.Need-add-out Inv-loop μ-loop
-add-out c = omega arith
+part-kept16-end : tie.Need-part-kept16-end
+part-kept16-end c = search needs
 
-shared-slice-read-out : tie.Need-shared-slice-read-out Inv-loop μ-loop
-shared-slice-read-out c = omega arith
+kept16-requires : tie.Need-kept16-requires
+kept16-requires c κs = search needs
 
-slice-write-out : tie.Need-slice-write-out Inv-loop μ-loop
-slice-write-out c = omega arith
+add-bytes : tie.Need-add-bytes
+add-bytes c = search needs
 
-add-i : tie.Need-add-i Inv-loop μ-loop
-add-i c = omega arith
+sub-bytes : tie.Need-sub-bytes
+sub-bytes c = search needs
 
-loop-less : tie.Need-loop-less Inv-loop μ-loop
-loop-less c = omega arith
+part-bytes-start : tie.Need-part-bytes-start
+part-bytes-start c = search needs
 
-loop-again : tie.Need-loop-again Inv-loop μ-loop
-loop-again c =
-    let l = c .before .before in
-    let a = l .before .args in (
-      omega arith,
-      simp length-set (l .loop .inv .1),
-      run-more (a .src .now) (a .at) (l .loop .i) (a .out .now) _ (omega arith) (omega arith) (l .loop .inv .2),
-    )
+part-bytes-end : tie.Need-part-bytes-end
+part-bytes-end c = search needs
 
-same-length : tie.Need-same-length Inv-loop μ-loop
-same-length c = omega arith
+bytes-requires : tie.Need-bytes-requires
+bytes-requires c κs = search needs
 
-returns : tie.Need-returns Inv-loop μ-loop
+same-length : tie.Need-same-length
+same-length c = search needs
+
+returns : tie.Need-returns
 returns c =
-    let l = c .before in
-    let a = l .before .args in
-    run-done (a .src .now) (a .at) (l .loop .i) (a .out .now) _ (l .before .pre) (l .loop .inv .0) (omega arith) (l .loop .inv .2)
+    let b = c .before .before in
+    let k = b .before .before .before .before in
+    let s = k .before .before .before .before in
+    let a = s .args in
+    run-whole (a .src .now) (a .at) (length (a .out .now) / 16) (a .out .now) _ (omega arith) (s .pre) (k .kept16 .ensures) _
+    (b .bytes .ensures)
 
 pub run-spec : {M : Type 1} → statement M
 run-spec =
-    tie.close (tie.spec Inv-loop μ-loop loop-holds add-out shared-slice-read-out slice-write-out add-i loop-less loop-again same-length returns)
+    tie.close
+    (tie.spec
+    mul-h
+    sub-kept16
+    part-kept16-start
+    part-kept16-end
+    kept16-requires
+    add-bytes
+    sub-bytes
+    part-bytes-start
+    part-bytes-end
+    bytes-requires
+    same-length
+    returns)
