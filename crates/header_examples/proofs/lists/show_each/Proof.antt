@@ -1,10 +1,10 @@
--- `header_examples::show_each` meets its contract: it is safe and ends. The measure is what is left of the list; the code's own tests say
+-- `header_examples::lists::show_each` meets its contract: it is safe and ends. The measure is what is left of the list; the code's own tests say
 -- that the `|` found lies in it. Assumes nothing.
 use Prim.Native.Nat.{_≤_, _-_}
 use borrow.Author.Needs.{needs}
 use lib.ListN.{length}
-use Rattle.header_examples.proofs.show_each.Statement.{statement}
-use Rattle.header_examples.proofs.show_each.Tie as tie
+use Rattle.header_examples.proofs.lists.show_each.Statement.{statement}
+use Rattle.header_examples.proofs.lists.show_each.Tie as tie
 
 abbrev Inv-loop : tie.InvT-loop
 Inv-loop kind list from₀ from = from ≤ length list
