@@ -1,34 +1,16 @@
 -- Tables by the code of a type: their entries are the type's, by one test that is computed over all codes.
 use mathlib.Core.Path.{_≡_, refl, sym, ap, _∙_}
-use mathlib.Core.Logic.{_⊎_, inl, inr}
-use mathlib.Core.Bool.{Bool, true, false, cond, false≢true}
+use mathlib.Core.Logic.{inl, inr}
 use mathlib.Core.List.{List, [], _∷_}
 use Prim.Native.Nat.{ℕ, zero, suc, _-_, _≤_, _<_}
-use native.Mathlib.Nat.{eq-or-lt-of-le, le-of-suc-le-suc, not-suc-le-zero}
 use native.Mathlib.Omega.{arith}
 use borrow.Author.Tests.{eqb-true}
 use lib.Dec.{eqb}
 use lib.ListN.{getD, List·getD-eq-default}
+use Rattle.scan.proofs.Below.{all-at}
 use Rattle.raster.specs.Strided.{Width}
 use Rattle.raster.specs.Types.{Class, unsigned, signed, float, DataType, types, typeOf}
 use Rattle.delivery.specs.Converting.{classNumber}
-
--- The test passes at every number below n.
-abbrev all : (ℕ → Bool) → ℕ → Bool
-all p zero = true
-all p (suc n) = cond (p n) (all p n) false
-
-both : (a b : Bool) → cond a b false ≡ true → (a ≡ true) × (b ≡ true)
-both true b e = (refl, e)
-both false b e = absurd (false≢true e)
-
-all-at : (p : ℕ → Bool) (n : ℕ) → all p n ≡ true → (k : ℕ) → k < n → p k ≡ true
-all-at p zero e k h = absurd (not-suc-le-zero h)
-all-at p (suc n) e k h = here (eq-or-lt-of-le (le-of-suc-le-suc h)) (both (p n) (all p n) e) (λ j. all-at p n (both (p n) (all p n) e .1) k j)
-  where
-    here : (k ≡ n) ⊎ (k < n) → (p n ≡ true) × (all p n ≡ true) → (k < n → p k ≡ true) → p k ≡ true
-    here (inl q) (a, b) f = ap p q ∙ a
-    here (inr j) (a, b) f = f j
 
 -- A type above the last code is that of no entry.
 no-type : (code : ℕ) → 11 ≤ code → typeOf code ≡ record { word = []; width = 1; class = unsigned }

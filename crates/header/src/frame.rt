@@ -58,20 +58,17 @@ fn closing_at(s: &[u8], right: usize) -> Found
     Found::Nothing
 }
 
-// Whether a byte can't stand in a body.
+// Whether a byte can't stand in a body. Most bytes are below the braces, so these are settled first.
 fn ends_body(b: u8) -> bool
     ensures { λ r. ⌜ r ≡ endsBody b ⌝ }
 {
-    if b == 0 {
-        return true;
+    if b < b'{' {
+        return b == 0;
     }
     if 127 < b {
         return true;
     }
-    if b == b'{' {
-        return true;
-    }
-    b == b'}'
+    b == b'{' || b == b'}'
 }
 
 // The first offset from `from` on whose byte can't stand in a body.

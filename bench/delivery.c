@@ -1,0 +1,113 @@
+// How long the delivery of an array takes, beside memcpy and beside plain C that does the same. One line for each case: the
+// times in ms, and the ratios. All of it in one run on the same buffers, which are touched first; the best of several turns.
+#include <stdint.h>
+#include <stdio.h>
+#include <stdlib.h>
+#include <string.h>
+#include <time.h>
+#include "edf.h"
+
+static double now(void) {
+    struct timespec t;
+    clock_gettime(CLOCK_MONOTONIC, &t);
+    return t.tv_sec * 1e3 + t.tv_nsec / 1e6;
+}
+
+// ---- Plain C, compiled apart (bench/plain.c)
+
+void plain(const uint8_t *in, uint8_t *out, int width, int is_signed, int reversed_in, int reversed_out, int64_t offset,
+           ptrdiff_t at, const ptrdiff_t step[3], const size_t dim[3]);
+
+// ---- The file
+
+static const struct {
+    const char *word;
+    int width, is_signed;
+} types[] = {{"UnsignedByte", 1, 0}, {"UnsignedShort", 2, 0}, {"UnsignedInteger", 4, 0}, {"Unsigned64", 8, 0}, {"SignedShort", 2, 1}, {"SignedInteger", 4, 1}};
+
+static size_t make_header(uint8_t *file, int type, int low_first, int n, const size_t dim[3], int configuration, long long offset, size_t size) {
+    int k = sprintf((char *)file, "{\nByteOrder = %s ;\nDataType = %s ;\n", low_first ? "LowByteFirst" : "HighByteFirst", types[type].word);
+    for (int i = 0; i < n; i++) k += sprintf((char *)file + k, "Dim_%d = %zu ;\n", i + 1, dim[i]);
+    k += sprintf((char *)file + k, "DataRasterConfiguration = %d ;\nDataValueOffset = %lld ;\nSize = %zu ;\n", configuration, offset, size);
+    memset(file + k, ' ', 512 - k);
+    file[510] = '}';
+    file[511] = '\n';
+    return 512;
+}
+
+// The steps of a configuration in elements, by the rule of document 01: N is inserted into the order for N - 1.
+static void steps_of(int n, int number, const size_t dim[3], ptrdiff_t *at, ptrdiff_t step[3]) {
+    int order[3], count[] = {1, 2, 8}, k[3], m = number - 1, length = 0;
+    for (int i = n - 1; i >= 0; i--) k[i] = m / count[i], m %= count[i];
+    for (int i = 0; i < n; i++) {
+        int place = length - k[i] / 2;
+        for (int j = length; j > place; j--) order[j] = order[j - 1];
+        order[place] = k[i] % 2 ? -(i + 1) : i + 1;
+        length++;
+    }
+    ptrdiff_t before = 1;
+    *at = 0;
+    step[0] = step[1] = step[2] = 0;
+    for (int j = 0; j < n; j++) {
+        int i = abs(order[j]) - 1;
+        step[i] = order[j] < 0 ? -before : before;
+        if (order[j] < 0) *at += before * (ptrdiff_t)(dim[i] - 1);
+        before *= (ptrdiff_t)dim[i];
+    }
+}
+
+// ---- One case
+
+enum { TURNS = 7 };
+static uint8_t *file, *out, *expected;
+
+static void measure(int type, int low_first, int asked_low, int n, size_t d1, size_t d2, size_t d3, int configuration, long long offset) {
+    size_t dim[3] = {d1, d2, d3}, size = d1 * d2 * d3 * types[type].width;
+    size_t head = make_header(file, type, low_first, n, dim, configuration, offset, size);
+    ptrdiff_t at, step[3];
+    steps_of(n, configuration, dim, &at, step);
+    double best[3] = {1e9, 1e9, 1e9};
+    for (int turn = 0; turn < TURNS; turn++) {
+        double t0 = now();
+        memcpy(expected, file + head, size);
+        double t1 = now();
+        plain(file + head, expected, types[type].width, types[type].is_signed, low_first, asked_low, offset, at, step, dim);
+        double t2 = now();
+        size_t length = 0, position = 0;
+        uint8_t code = edf_read_array(file, head + size, 0, asked_low ? 2 : 1, out, size, &length, &position);
+        double t3 = now();
+        if (code != 0 || length != size || memcmp(out, expected, size) != 0) {
+            printf("wrong: %s configuration %d: code %d at %zu\n", types[type].word, configuration, code, position);
+            exit(1);
+        }
+        if (t1 - t0 < best[0]) best[0] = t1 - t0;
+        if (t2 - t1 < best[1]) best[1] = t2 - t1;
+        if (t3 - t2 < best[2]) best[2] = t3 - t2;
+    }
+    printf("| %-15s | %s | %d | %2d | %6lld | %7.2f | %7.2f | %7.2f | %5.2f | %5.2f |\n", types[type].word, low_first == asked_low ? "same    " : "reversed", n,
+           configuration, offset, best[0], best[1], best[2], best[2] / best[0], best[2] / best[1]);
+    fflush(stdout);
+}
+
+int main(void) {
+    size_t most = 64u << 20;
+    file = malloc(most + 512), out = malloc(most), expected = malloc(most);
+    for (size_t i = 0; i < most + 512; i++) file[i] = (uint8_t)(i * 2654435761u >> 13);
+    memset(out, 1, most), memset(expected, 1, most);
+    printf("| type | bytes | N | configuration | offset | memcpy ms | plain C ms | edf ms | edf / memcpy | edf / C |\n");
+    printf("|---|---|---|---|---|---|---|---|---|---|\n");
+    for (int type = 0; type < 4; type++) {
+        size_t side = 2048;
+        for (int reversed = 0; reversed < 2; reversed++) {
+            measure(type, reversed, 0, 2, side, side, 1, 1, 0);
+            for (int c = 2; c <= 8; c++) measure(type, reversed, 0, 2, side, side, 1, c, 0);
+        }
+        measure(type, 0, 0, 2, side, side, 1, 1, 10);
+        measure(type, 1, 0, 2, side, side, 1, 6, -10);
+    }
+    measure(4, 0, 0, 2, 2048, 2048, 1, 1, 10);
+    measure(5, 1, 0, 2, 2048, 2048, 1, 1, -10);
+    int cubes[] = {1, 17, 33, 48};
+    for (int i = 0; i < 4; i++) measure(1, 0, 0, 3, 256, 256, 64, cubes[i], 0);
+    return 0;
+}
