@@ -7,5 +7,6 @@ pub mod IdentitySteps
 pub mod JudgeLaws
 pub mod NumberSteps
 pub mod Searches
+pub mod TableLaws
 pub mod Turns
 pub mod VersionSteps

@@ -3,3 +3,4 @@ pub mod Blocks
 pub mod Core
 pub mod Counting
 pub mod Entries
+pub mod Table

@@ -5,6 +5,7 @@ pub mod judge;
 pub mod keys;
 pub mod run;
 pub mod steps;
+pub mod table;
 pub mod values;
 
 use blocks::Accepted;
@@ -23,5 +24,12 @@ pub enum Step {
 // A file that was opened: its rows, of which the answer says how many count.
 pub struct Opening {
     pub rows: [Row; 256],
+    pub answer: Opened,
+}
+
+// What a call with a lent table is to do: the rows, of which the first `count` go into the table, and its answer.
+pub struct Plan {
+    pub rows: [Row; 256],
+    pub count: usize,
     pub answer: Opened,
 }
