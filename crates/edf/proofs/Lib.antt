@@ -1,1 +1,4 @@
 pub mod Examples
+pub mod OpeningLaws
+pub mod TableLaws
+pub mod Walks

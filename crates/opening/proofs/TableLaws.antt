@@ -1,5 +1,5 @@
 -- The cases of a plan for a lent table.
-use mathlib.Core.Path.{_≡_, refl, sym, ap, _∙_}
+use mathlib.Core.Path.{_≡_, sym, ap, _∙_}
 use mathlib.Core.Bool.{false, true}
 use mathlib.Core.List.{List}
 use Prim.Native.Nat.{ℕ, _≤_, _<_}
@@ -8,9 +8,8 @@ use borrow.Author.Tests.{le-leb, lt-leb}
 use lib.Dec.{leb}
 use lib.ListN.{length, take}
 use lib.Seq.{length-take-le}
-use Rattle.scan.specs.Outcome.{Outcome, ok, failed, refused, errorAt}
+use Rattle.scan.specs.Outcome.{Outcome, ok, failed, refused}
 use Rattle.scan.specs.declared.Error.{Error}
-use Rattle.blocks.specs.Answers.{openedOutcome}
 use Rattle.blocks.specs.Opening.{opened, openedInto, countOf}
 use Rattle.blocks.specs.declared.Opened.{Opened}
 use Rattle.blocks.specs.declared.Opened.the-variants.{Blocks, Failed}
