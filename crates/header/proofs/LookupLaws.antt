@@ -105,7 +105,7 @@ module _ (s : List ℕ) (t : Statement) (order : t .equals < t .end) where
 -- ---- The bytes at the span of a value are the value
 
 -- A part of a prefix that lies in it is the file's.
-part-of-prefix : (n from to : ℕ) (s : List ℕ) → from + n ≤ to → take n (drop from (take to s)) ≡ take n (drop from s)
+pub part-of-prefix : (n from to : ℕ) (s : List ℕ) → from + n ≤ to → take n (drop from (take to s)) ≡ take n (drop from s)
 part-of-prefix n from to s h =
     part-between from n (take to s) ∙ ap (drop from) (take-take (from + n) to s h) ∙ sym (part-between from n s)
 

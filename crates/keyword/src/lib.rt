@@ -1,4 +1,7 @@
 // Keywords of a block.
+pub mod lookup;
+pub mod view;
+
 use blocks::Row;
 use header::Header;
 use scan::Error;

@@ -1,0 +1,58 @@
+// Looking a key up in the headers of a block.
+use super::Block;
+use super::Value;
+use header::Header;
+use header::lookup::Sought;
+use header::lookup::find_key;
+use header::lookup::value_of;
+use opening::keys::is_edf_key;
+ghost use mathlib.Core.Path.{_≡_};
+ghost use lib.ListN.{take};
+ghost use Rattle.text.specs.Key.{keyOf};
+ghost use Rattle.keyword.specs.Viewing.{headerEntries, viewAt, valueSpan, valueBytes, entrySpan, entryValue, spanIn, valueIn};
+
+// The bytes up to an offset; all of them where it is past the end.
+fn up_to(s: &[u8], end: usize) -> &[u8]
+    ensures { λ r. ⌜ now r ≡ take end (now (s .entry)) ⌝ }
+{
+    if s.len() < end {
+        return s;
+    }
+    &s[..end]
+}
+
+// The value of a key in one header.
+fn value_in(file: &[u8], h: Header, key: &[u8]) -> Value
+    ensures { λ r. ⌜ valueSpan r ≡ entrySpan (keyOf (now (key .entry))) (headerEntries (now (file .entry)) h) ⌝ }
+    ensures { λ r. ⌜ valueBytes (now (file .entry)) r ≡ entryValue (keyOf (now (key .entry))) (headerEntries (now (file .entry)) h) ⌝ }
+{
+    let left = h.left;
+    let right = h.right;
+    if file.len() <= left {
+        return Value::Missing;
+    }
+    let body = up_to(file, right);
+    match find_key(body, left + 1, key) {
+        Sought::Missing => Value::Missing,
+        Sought::At(t) => Value::At(value_of(body, t)),
+    }
+}
+
+// The value of a key in a block: in its own header, then, but for EDF_ keys, in the general header.
+pub fn look_up(file: &[u8], b: Block, key: &[u8]) -> Value
+    ensures { λ r. ⌜ valueSpan r ≡ spanIn (viewAt (now (file .entry)) b) (now (key .entry)) ⌝ }
+    ensures { λ r. ⌜ valueBytes (now (file .entry)) r ≡ valueIn (viewAt (now (file .entry)) b) (now (key .entry)) ⌝ }
+{
+    match value_in(file, b.own, key) {
+        Value::At(p) => Value::At(p),
+        Value::Missing => {
+            if !b.inherits {
+                return Value::Missing;
+            }
+            if is_edf_key(key) {
+                return Value::Missing;
+            }
+            value_in(file, b.general, key)
+        }
+    }
+}
