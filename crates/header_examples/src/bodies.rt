@@ -1,14 +1,14 @@
 // All checks of a header's statements.
 use crate::lists::BODY;
 use crate::lists::show_each;
-use crate::show::bracketed;
-use crate::show::count;
-use crate::show::end_line;
-use crate::show::failure;
-use crate::show::show;
-use crate::show::word;
 use crate::values::yes_or_no;
 use header::Checked;
+use printing::bracketed;
+use printing::count;
+use printing::end_line;
+use printing::failure;
+use printing::show;
+use printing::word;
 use scan::Span;
 
 fn show_checked(s: &[u8], from: usize, start: usize) {

@@ -1,10 +1,10 @@
 // The frame of a header.
-use crate::show::count;
-use crate::show::end_line;
-use crate::show::failure;
-use crate::show::show;
-use crate::show::word;
 use header::Framed;
+use printing::count;
+use printing::end_line;
+use printing::failure;
+use printing::show;
+use printing::word;
 
 fn show_framed(s: &[u8], start: usize) {
     match header::frame::header_at(s, start) {

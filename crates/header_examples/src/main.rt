@@ -4,7 +4,6 @@ mod bodies;
 mod frames;
 mod lists;
 mod numbers;
-mod show;
 mod statements;
 mod texts;
 mod values;

@@ -1,12 +1,12 @@
 // Whole numbers.
 use crate::lists::WHOLE;
 use crate::lists::show_each;
-use crate::show::bracketed;
-use crate::show::bracketed_part;
-use crate::show::end_line;
-use crate::show::failure;
-use crate::show::show;
-use crate::show::word;
+use printing::bracketed;
+use printing::bracketed_part;
+use printing::end_line;
+use printing::failure;
+use printing::show;
+use printing::word;
 use text::Written;
 use text::number::Whole;
 

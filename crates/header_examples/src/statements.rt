@@ -1,12 +1,12 @@
 // Statements, and finding a key.
-use crate::show::bracketed;
-use crate::show::count;
-use crate::show::end_line;
-use crate::show::show;
-use crate::show::word;
 use header::Next;
 use header::Statement;
 use header::lookup::Sought;
+use printing::bracketed;
+use printing::count;
+use printing::end_line;
+use printing::show;
+use printing::word;
 
 fn show_statement(t: Statement) {
     count(t.first);

@@ -2,11 +2,11 @@
 use crate::lists::ESCAPE;
 use crate::lists::UNESCAPE;
 use crate::lists::show_each;
-use crate::show::bracketed;
-use crate::show::count;
-use crate::show::end_line;
-use crate::show::failure;
-use crate::show::show;
+use printing::bracketed;
+use printing::count;
+use printing::end_line;
+use printing::failure;
+use printing::show;
 use text::Written;
 
 fn show_written(w: Written) {

@@ -1,11 +1,11 @@
 // Keys and values.
 use crate::lists::VALUE;
 use crate::lists::show_each;
-use crate::show::bracketed;
-use crate::show::count;
-use crate::show::end_line;
-use crate::show::show;
-use crate::show::word;
+use printing::bracketed;
+use printing::count;
+use printing::end_line;
+use printing::show;
+use printing::word;
 
 pub fn yes_or_no(b: bool) {
     if b {

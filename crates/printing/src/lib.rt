@@ -1,4 +1,4 @@
-// Writing a line: its name, then each part after a space.
+// What the programs of examples print: lines of a name, then each part after a space.
 use libc::STDOUT_FILENO;
 use scan::Error;
 use scan::Span;
