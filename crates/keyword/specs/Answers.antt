@@ -1,5 +1,8 @@
 -- The numbers and values of this layer's answers.
+use mathlib.Core.List.{List}
+use Prim.Native.Nat.{ℕ}
 use lib.IntN.{ℤ}
+use Rattle.scan.specs.Byte.{partOf}
 use Rattle.scan.specs.Outcome.{Outcome, ok, failed}
 use Rattle.scan.specs.declared.Span.{Span}
 use Rattle.keyword.specs.declared.Located.{Located}
@@ -11,6 +14,11 @@ use Rattle.keyword.specs.declared.Number.the-variants as number
 abbrev pub locatedOutcome : Located → Outcome Span
 locatedOutcome (located.At p) = ok p
 locatedOutcome (located.Failed e) = failed e
+
+-- The bytes of the file at that span, or the error.
+abbrev pub locatedBytes : List ℕ → Located → Outcome (List ℕ)
+locatedBytes s (located.At p) = ok (partOf s p)
+locatedBytes s (located.Failed e) = failed e
 
 -- The number, or the error.
 abbrev pub numberOutcome : Number → Outcome ℤ

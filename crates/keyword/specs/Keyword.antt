@@ -74,6 +74,12 @@ found s block sought = do
   e ← entryOf s block sought
   ok (e .span)
 
+-- The value that stands there.
+unfoldable pub valueFound : List ℕ → ℕ → List ℕ → Outcome (List ℕ)
+valueFound s block sought = do
+  e ← entryOf s block sought
+  ok (e .value)
+
 -- 18: "bad number"; "Place .. 0 for a keyword read as a whole number".
 unfoldable pub wholeNumberOf : List ℕ → ℕ → List ℕ → Outcome ℤ
 wholeNumberOf s block sought = do

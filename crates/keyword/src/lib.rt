@@ -1,5 +1,6 @@
 // Keywords of a block.
 pub mod lookup;
+pub mod read;
 pub mod view;
 
 use blocks::Row;
