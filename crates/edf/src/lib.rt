@@ -1,10 +1,22 @@
-// The public calls. None asks anything of its caller; what each answers is defined in the layers below.
+// The public calls. Each takes any bytes and any numbers, and answers what a definition in the layers below gives. Calls on a
+// block take the file and the block's number, from 0, and answer as if they opened the file anew: where the file does not
+// open, the error is that of opening (1 and 3 to 15), with its position.
 use blocks::Opened;
 use blocks::Row;
+use keyword::Located;
+use keyword::Number;
+use scan::Span;
+use text::Written;
 ghost use mathlib.Core.Path.{_≡_};
 ghost use lib.ListN.{length};
+ghost use Rattle.scan.specs.Buffer.{lengthWritten, bufferAfter};
+ghost use Rattle.scan.specs.Byte.{partOf};
+ghost use Rattle.text.specs.Answers.{writtenOutcome};
+ghost use Rattle.text.specs.Text.{escaped, unescaped};
 ghost use Rattle.blocks.specs.Answers.{openedOutcome};
 ghost use Rattle.blocks.specs.Opening.{openedInto, countOf, tableAfter};
+ghost use Rattle.keyword.specs.Answers.{locatedOutcome, locatedBytes, numberOutcome};
+ghost use Rattle.keyword.specs.Keyword.{found, valueFound, wholeNumberOf, textIn};
 ghost use Rattle.edf.specs.Opening.{OpensAs};
 
 // Opens a file into a lent table of at least 256 rows: answers the number of its blocks, and puts the row of each into the table, in
@@ -20,4 +32,54 @@ pub fn open(file: &[u8], table: &mut [Row]) -> Opened
         i += 1;
     }
     p.answer
+}
+
+// Where the value of a keyword of a block stands in the file; the bytes there are the value. Errors: those of opening; 16 no
+// such block or keyword.
+pub fn find(file: &[u8], block: usize, key: &[u8]) -> Located
+    ensures { λ r. ⌜ locatedOutcome r ≡ found (now (file .entry)) block (now (key .entry)) ⌝ }
+    ensures { λ r. ⌜ locatedBytes (now (file .entry)) r ≡ valueFound (now (file .entry)) block (now (key .entry)) ⌝ }
+{
+    keyword::read::find(file, block, key)
+}
+
+// The bytes of a span, as a part of the caller's file; the empty part where the span does not lie inside.
+pub fn part(file: &[u8], p: Span) -> &[u8]
+    ensures { λ r. ⌜ now r ≡ partOf (now (file .entry)) p ⌝ }
+{
+    scan::part(file, p)
+}
+
+// The value of a keyword as a whole number. Errors: those of opening; 16 no such block or keyword; 18 no whole number.
+pub fn whole_number(file: &[u8], block: usize, key: &[u8]) -> Number
+    ensures { λ r. ⌜ numberOutcome r ≡ wholeNumberOf (now (file .entry)) block (now (key .entry)) ⌝ }
+{
+    keyword::read::whole_number(file, block, key)
+}
+
+// The value of a keyword as text, at the front of the lent buffer: how many bytes. Errors, in which the buffer is untouched:
+// those of opening; 16 no such block or keyword; 25 text too long; 22 buffer too small.
+pub fn text(file: &[u8], block: usize, key: &[u8], out: &mut [u8]) -> Written
+    ensures { λ r. ⌜ writtenOutcome r ≡ lengthWritten (textIn (now (file .entry)) block (now (key .entry))) (now (out .entry)) ⌝ }
+    ensures { λ _. ⌜ now (out .exit) ≡ bufferAfter (textIn (now (file .entry)) block (now (key .entry))) (now (out .entry)) ⌝ }
+{
+    keyword::read::read_text(file, block, key, out)
+}
+
+// Text in value form, at the front of the lent buffer: how many bytes. Errors, in which the buffer is untouched: 24 a byte
+// that can't stand in text; 25 text too long; 22 buffer too small.
+pub fn escape(bytes: &[u8], out: &mut [u8]) -> Written
+    ensures { λ r. ⌜ writtenOutcome r ≡ lengthWritten (escaped (now (bytes .entry))) (now (out .entry)) ⌝ }
+    ensures { λ _. ⌜ now (out .exit) ≡ bufferAfter (escaped (now (bytes .entry))) (now (out .entry)) ⌝ }
+{
+    text::escape::escape(bytes, out)
+}
+
+// The text of bytes that stand between `=` and `;`, at the front of the lent buffer: how many bytes. Errors, in which the
+// buffer is untouched: 24 a byte that can't stand there; 25 text too long; 22 buffer too small.
+pub fn unescape(value: &[u8], out: &mut [u8]) -> Written
+    ensures { λ r. ⌜ writtenOutcome r ≡ lengthWritten (unescaped (now (value .entry))) (now (out .entry)) ⌝ }
+    ensures { λ _. ⌜ now (out .exit) ≡ bufferAfter (unescaped (now (value .entry))) (now (out .entry)) ⌝ }
+{
+    text::escape::unescape(value, out)
 }
