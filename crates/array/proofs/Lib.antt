@@ -1,1 +1,7 @@
+pub mod DeliveryLaws
+pub mod DescribedLaws
+pub mod Main
+pub mod Nans
+pub mod Pieces
+pub mod PixelLaws
 pub mod Words

@@ -2,3 +2,4 @@ pub mod Answers
 pub mod Delivery
 pub mod Describe
 pub mod Fields
+pub mod Valid

@@ -1,4 +1,7 @@
 // A block's array.
+pub mod deliver;
+pub mod pixel;
+
 use raster::Pixel;
 use scan::Error;
 

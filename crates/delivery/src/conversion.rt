@@ -32,7 +32,7 @@ pub fn width_of(datatype: u8) -> usize
     if code < 11 { WIDTHS[code] } else { 1 }
 }
 
-fn class_of(datatype: u8) -> u8
+pub fn class_of(datatype: u8) -> u8
     ensures { λ r. ⌜ r ≡ classNumber (typeOf datatype .class) ⌝ }
 {
     let code = datatype as usize;
