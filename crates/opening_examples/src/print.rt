@@ -1,0 +1,137 @@
+// Writing a line: the name of an example, and what opening answered.
+use super::lend::Held;
+use blocks::Opened;
+use blocks::Row;
+use libc::STDOUT_FILENO;
+use scan::Error;
+use scan::Span;
+use text::Written;
+
+pub fn show(w: &[u8]) {
+    io::write_all(STDOUT_FILENO, w);
+}
+
+pub fn number(n: usize) {
+    show(b" ");
+    io::print_decimal(STDOUT_FILENO, n as u64);
+}
+
+fn decimal_into(n: i64, out: &mut [u8]) {
+    match text::decimal::write_decimal(n, out) {
+        Written::Length(k) => show(scan::part(
+            out,
+            Span {
+                offset: 0,
+                length: k,
+            },
+        )),
+        Written::Failed(e) => failure(e),
+    }
+}
+
+fn signed(n: i64) {
+    show(b" ");
+    let mut out = [0u8; 20];
+    decimal_into(n, &mut out);
+}
+
+fn failure(e: Error) {
+    show(b" refused");
+    let code = e.code;
+    number(code as usize);
+    number(e.position);
+}
+
+fn show_row(r: Row) {
+    show(b" |");
+    number(r.start);
+    number(r.header);
+    number(r.size);
+    let kind = r.kind;
+    number(kind as usize);
+    signed(r.sequence);
+    let instance = r.instance;
+    number(instance as usize);
+    signed(r.memory);
+}
+
+// The first n rows, or of more than four the first and the last.
+fn show_rows(rows: [Row; 256], n: usize) {
+    if n > 256 {
+        return;
+    }
+    if n > 4 {
+        let last = n - 1;
+        show_row(rows[0]);
+        show_row(rows[last]);
+        return;
+    }
+    let mut i = 0;
+    while i < n {
+        show_row(rows[i]);
+        i += 1;
+    }
+}
+
+// ---- The table is first filled with one row, which no block of an example has
+
+pub fn filling() -> Row {
+    Row {
+        start: 7,
+        header: 7,
+        size: 7,
+        kind: 7,
+        sequence: 7,
+        instance: 7,
+        memory: 7,
+    }
+}
+
+fn is_filling(r: Row) -> bool {
+    r.start == 7
+        && r.header == 7
+        && r.size == 7
+        && r.kind == 7
+        && r.sequence == 7
+        && r.instance == 7
+        && r.memory == 7
+}
+
+// Says so if a row from number n on is no longer what it was.
+fn check_kept(rows: [Row; 256], n: usize) {
+    let mut i = n;
+    while i < 256 {
+        if !is_filling(rows[i]) {
+            show(b" and another row changed");
+            return;
+        }
+        i += 1;
+    }
+}
+
+pub fn show_answer(a: Opened) {
+    match a {
+        Opened::Blocks(n) => {
+            show(b" blocks");
+            number(n);
+        }
+        Opened::Failed(e) => failure(e),
+    }
+}
+
+fn count_of(a: Opened) -> usize {
+    match a {
+        Opened::Blocks(n) => n,
+        Opened::Failed(_) => 0,
+    }
+}
+
+pub fn show_held(h: Held) {
+    let rows = h.rows;
+    let answer = h.answer;
+    let n = count_of(answer);
+    show_answer(answer);
+    show_rows(rows, n);
+    check_kept(rows, n);
+    show(b"\n");
+}
