@@ -161,10 +161,10 @@ module _ (d : Description) (size : ℕ) (v : ValidArray d size) where
 
   -- ---- What code goes by, with the width that it found
 
-  pub room-fits : (room : ℕ) → size < 2 ^ 64 → 1 ≤ d .dim1
+  pub room-fits : (room : ℕ) → size < 2 ^ 64
       → let w = arrayType d .width in
       product (arrayDims d) * w ≤ room → (w * d .dim1 < 2 ^ 64) × (w * d .dim1 * d .dim2 * d .dim3 ≤ room)
-  room-fits room fits some1 h =
+  room-fits room fits h =
       let w = arrayType d .width in (
         omega (
           arith,
@@ -177,6 +177,17 @@ module _ (d : Description) (size : ℕ) (v : ValidArray d size) where
       )
 
   module _ (w : ℕ) (wide : w ≡ arrayType d .width) where
+    pub length-made : w * d .dim1 * d .dim2 * d .dim3 ≡ product (arrayDims d) * arrayType d .width
+    length-made = rw wide (cube-is (arrayType d .width))
+
+    pub length-fits : size < 2 ^ 64 → (w * d .dim1 < 2 ^ 64) × (w * d .dim1 * d .dim2 < 2 ^ 64) × (w * d .dim1 * d .dim2 * d .dim3 < 2 ^ 64)
+    length-fits fits =
+        let p = le-mul-of-pos-right (w * d .dim1) (v .some2) in
+        let q = le-mul-of-pos-right (w * d .dim1 * d .dim2) (v .some3) in
+        let k = v .stored in
+        let e = length-made in
+        (omega arith, omega arith, omega arith)
+
     pub steps-fit : size < 2 ^ 64 → w * (d .dim1 * d .dim2 * d .dim3) < 2 ^ 64
     steps-fit fits = rw wide (omega (arith, room-is (arrayType d .width), v .stored))
 

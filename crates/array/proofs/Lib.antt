@@ -4,4 +4,5 @@ pub mod Main
 pub mod Nans
 pub mod Pieces
 pub mod PixelLaws
+pub mod PixelValues
 pub mod Words

@@ -2,30 +2,24 @@
 use mathlib.Core.Path.{_≡_, refl, sym, ap, subst, _∙_}
 use mathlib.Core.Bool.{Bool, true, false, _&&_}
 use mathlib.Core.List.{List, [], _∷_, _++_}
-use mathlib.Core.Logic.{inl, inr}
-use Prim.Native.Nat.{ℕ, zero, suc, _+_, _-_, _*_, _^_, _≤_, _<_}
+use Prim.Native.Nat.{ℕ, zero, suc, _+_, _*_, _^_, _≤_, _<_}
 use native.Mathlib.Nat.{mod-lt, zero-mul, add-zero, sub-zero}
 use native.Mathlib.Omega.{arith}
-use borrow.Author.Tests.{eq-eqb, ne-eqb, lt-ltb, le-ltb, ltb-true}
+use borrow.Author.Tests.{ltb-true}
 use lib.Dec.{ltb}
-use lib.Ieee.{Float, binary32, binary64, ofBits}
-use lib.IntN.{ℤ, pos, negsuc}
+use lib.IntN.{ℤ}
 use lib.ListN.{length, take, drop, replicate}
 use Rattle.scan.specs.Buffer.{over}
 use Rattle.scan.proofs.Cases.{clash}
 use Rattle.raster.specs.Bytes.{lowFirst, numberOf, joined}
-use Rattle.raster.specs.Element.{half, signedOf, offsetBits, elementBits, elementBytes}
-use Rattle.raster.specs.Pixels.{pixelOf}
-use Rattle.raster.specs.Strided.{Octets, Inside3, Width, deliveredAt}
+use Rattle.raster.specs.Element.{offsetBits, elementBits, elementBytes}
+use Rattle.raster.specs.Strided.{Octets, Inside3, deliveredAt}
 use Rattle.raster.specs.Types.{Class, unsigned, signed, float, DataType}
-use Rattle.raster.specs.declared.Pixel.the-variants.{Unsigned, Signed, Float32, Float64}
 use Rattle.raster.specs.declared.stride.Steps.{Steps}
-use Rattle.raster.proofs.RoundTrip.{number-bound, number-of-bytes, two-halves}
+use Rattle.raster.proofs.RoundTrip.{number-bound, number-of-bytes}
 use Rattle.raster.proofs.Stored.{octets-part}
 use Rattle.elements.proofs.RowLaws.{length-element}
 use Rattle.offsets.proofs.Sums.{offset-moved}
-use Rattle.delivery.specs.Converting.{classNumber}
-use Rattle.delivery.proofs.Tables.{is-unsigned, is-signed}
 use Rattle.array.specs.Delivery.{isIndex}
 use Rattle.array.specs.declared.Description.{Description}
 
@@ -116,49 +110,3 @@ bits-read t order offset s p b n some inside octets e read =
     ∙ low-over (elementBytes t order offset 2 l) 8 ∙ sym (number-low (elementBytes t order offset 2 l))
     ∙ bits-delivered t order offset l some bytes wide 2 in
     (is, rw is (bits-bound t order offset l some bytes wide))
-
--- ---- Values
-
-pub signed-low : (h n : ℕ) → n < h → pos n ≡ signedOf h n
-signed-low h n l = rw (lt-ltb n h l)
-
-pub signed-high : (h n : ℕ) → h ≤ n → n < 2 * h → negsuc (h - 1 - (n - h)) ≡ signedOf h n
-signed-high h n l b = rw (le-ltb n h l) (ap negsuc (omega arith))
-
-half-by : (w : ℕ) → Width w → half w ≤ 2 ^ 63
-half-by w (inl e) = rw e (omega arith)
-half-by w (inr (inl e)) = rw e (omega arith)
-half-by w (inr (inr (inl e))) = rw e (omega arith)
-half-by w (inr (inr (inr e))) = rw e (omega arith)
-
--- Half of the numbers is at most 2^63, and two halves are all.
-pub half-fits : (w u h n : ℕ) → Width w → 0 < w → u ≡ w → h ≡ half u → n < 256 ^ w → (n < 2 * h) × (h ≤ 2 ^ 63)
-half-fits w u h n width some eu eh below = rw (eh, eu) (omega (arith, two-halves w some), half-by w width)
-
-pub four-fits : (w u n : ℕ) → u ≡ w → u ≡ 4 → n < 256 ^ w → n < 2 ^ 32
-four-fits w u n e f h = let g : w ≡ 4 = omega arith in rw g at h
-
-module _ (class : Class) (w n : ℕ) where
-  pub pixel-unsigned : classNumber class ≡ 0 → Unsigned n ≡ pixelOf class w n
-  unfolding pixelOf
-  pixel-unsigned e = rw (is-unsigned class e)
-
-  pub pixel-signed : (z : ℤ) → classNumber class ≡ 1 → z ≡ signedOf (half w) n → Signed z ≡ pixelOf class w n
-  unfolding pixelOf
-  pixel-signed z e q = rw (is-signed class e, q)
-
-  -- A class with another number is that of floats.
-  else-float : (c : Class) → (classNumber c ≡ 0 → ⊥) → (classNumber c ≡ 1 → ⊥) → c ≡ float
-  else-float unsigned a b = absurd (a refl)
-  else-float signed a b = absurd (b refl)
-  else-float float a b = refl
-
-  pub pixel-narrow : (x : Float) → (classNumber class ≡ 0 → ⊥) → (classNumber class ≡ 1 → ⊥) → w ≡ 4 → x ≡ ofBits binary32 n
-      → Float32 x ≡ pixelOf class w n
-  unfolding pixelOf
-  pixel-narrow x a b f q = rw (else-float class a b, eq-eqb w 4 f, q)
-
-  pub pixel-wide : (x : Float) → (classNumber class ≡ 0 → ⊥) → (classNumber class ≡ 1 → ⊥) → (w ≡ 4 → ⊥) → x ≡ ofBits binary64 n
-      → Float64 x ≡ pixelOf class w n
-  unfolding pixelOf
-  pixel-wide x a b f q = rw (else-float class a b, ne-eqb w 4 f, q)

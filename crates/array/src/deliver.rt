@@ -8,8 +8,26 @@ ghost use Prim.Native.Nat.{_*_, _≤_};
 ghost use lib.ListN.{length};
 ghost use Rattle.scan.specs.Buffer.{over};
 ghost use Rattle.raster.specs.Position.{product};
-ghost use Rattle.array.specs.Delivery.{arrayType, arrayDims, delivered};
+ghost use Rattle.array.specs.Delivery.{arrayType, arrayDims, isOrder, delivered};
 ghost use Rattle.array.specs.Valid.{ValidArray};
+
+// Whether a number is the code of a byte order.
+pub fn is_order(asked: u8) -> bool
+    ensures { λ r. ⌜ r ≡ isOrder asked ⌝ }
+{
+    if asked < 1 {
+        return false;
+    }
+    asked <= 2
+}
+
+// How many bytes delivery writes.
+pub fn array_length(src: &[u8], d: Description) -> usize
+    requires { ⌜ ValidArray d (length (now src)) ⌝ }
+    ensures { λ r. ⌜ r ≡ product (arrayDims d) * arrayType d .width ⌝ }
+{
+    width_of(d.datatype) * d.dim1 * d.dim2 * d.dim3
+}
 
 // The array in the byte order asked for, at the front of `out`. What follows there stays.
 pub fn deliver_array(src: &[u8], d: Description, asked: u8, out: &mut [u8])

@@ -111,7 +111,8 @@ fn place_of(
 // The bits of the element at an offset: delivered low byte first in front of zeros, it is their number.
 fn bits_of(src: &[u8], d: Description, at: usize) -> u64
     requires { ⌜ at + arrayType d .width ≤ length (now src) ⌝ }
-    ensures { λ r. ⌜ (r ≡ elementBits (arrayType d) (d .byteorder) (d .offset) (take (arrayType d .width) (drop at (now (src .entry))))) × (r < 256 ^ arrayType d .width) ⌝ }
+    ensures { λ r. ⌜ r ≡ elementBits (arrayType d) (d .byteorder) (d .offset) (take (arrayType d .width) (drop at (now (src .entry)))) ⌝ }
+    ensures { λ r. ⌜ r < 256 ^ arrayType d .width ⌝ }
 {
     let t = Steps {
         at: at,
@@ -136,6 +137,18 @@ fn bits_of(src: &[u8], d: Description, at: usize) -> u64
         &mut bytes,
     );
     low8(bytes)
+}
+
+pub fn is_index(d: Description, i1: usize, i2: usize, i3: usize) -> bool
+    ensures { λ r. ⌜ r ≡ isIndex d i1 i2 i3 ⌝ }
+{
+    if d.dim1 <= i1 {
+        return false;
+    }
+    if d.dim2 <= i2 {
+        return false;
+    }
+    i3 < d.dim3
 }
 
 // The pixel at an index.

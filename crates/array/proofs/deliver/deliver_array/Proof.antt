@@ -45,7 +45,7 @@ deliver-requires c κs =
     let v = s .pre .0 in
     let some1 : 1 ≤ a .d .dim1 = omega (arith, t .if1 .left) in (
       steps-hold (a .d) _ v (w .width-of .result) (w .width-of .ensures) (p .steps-of .result) (p .steps-of .ensures) some1,
-      room-fits (a .d) _ v (length (a .out .now)) (omega arith) some1 (s .pre .1),
+      room-fits (a .d) _ v (length (a .out .now)) (omega arith) (s .pre .1),
     )
 
 same-length : tie.Need-same-length

@@ -8,7 +8,7 @@ use Rattle.raster.specs.Strided.{Width}
 use Rattle.raster.specs.Types.{typeOf}
 use Rattle.delivery.proofs.Tables.{type-width}
 use Rattle.array.proofs.DeliveryLaws.{type-width-some}
-use Rattle.array.proofs.PixelLaws.{half-fits, four-fits, pixel-unsigned, pixel-signed, pixel-narrow, pixel-wide}
+use Rattle.array.proofs.PixelValues.{half-fits, four-fits, pixel-unsigned, pixel-signed, pixel-narrow, pixel-wide}
 use borrow.Author.Needs.{needs}
 use Rattle.array.proofs.pixel.pixel_by.Statement.{statement}
 use Rattle.array.proofs.pixel.pixel_by.Tie as tie

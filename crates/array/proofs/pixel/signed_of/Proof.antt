@@ -1,7 +1,7 @@
 -- `array::pixel::signed_of` meets its contract.
 use mathlib.Core.Path.{_∙_}
 use Rattle.text.proofs.Signs.{gave}
-use Rattle.array.proofs.PixelLaws.{signed-low, signed-high}
+use Rattle.array.proofs.PixelValues.{signed-low, signed-high}
 use borrow.Author.Needs.{needs}
 use Rattle.array.proofs.pixel.signed_of.Statement.{statement}
 use Rattle.array.proofs.pixel.signed_of.Tie as tie
