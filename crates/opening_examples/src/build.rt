@@ -1,8 +1,8 @@
 // Files of the examples, built in a local array that is filled with spaces.
 use super::lend::open_held;
 use super::print::filling;
-use super::print::show;
 use super::print::show_held;
+use printing::show;
 use scan::Found;
 use scan::Span;
 

@@ -2,56 +2,21 @@
 use super::lend::Held;
 use blocks::Opened;
 use blocks::Row;
-use libc::STDOUT_FILENO;
-use scan::Error;
-use scan::Span;
-use text::Written;
-
-pub fn show(w: &[u8]) {
-    io::write_all(STDOUT_FILENO, w);
-}
-
-pub fn number(n: usize) {
-    show(b" ");
-    io::print_decimal(STDOUT_FILENO, n as u64);
-}
-
-fn decimal_into(n: i64, out: &mut [u8]) {
-    match text::decimal::write_decimal(n, out) {
-        Written::Length(k) => show(scan::part(
-            out,
-            Span {
-                offset: 0,
-                length: k,
-            },
-        )),
-        Written::Failed(e) => failure(e),
-    }
-}
-
-fn signed(n: i64) {
-    show(b" ");
-    let mut out = [0u8; 20];
-    decimal_into(n, &mut out);
-}
-
-fn failure(e: Error) {
-    show(b" refused");
-    let code = e.code;
-    number(code as usize);
-    number(e.position);
-}
+use printing::count;
+use printing::failure;
+use printing::show;
+use printing::signed;
 
 fn show_row(r: Row) {
     show(b" |");
-    number(r.start);
-    number(r.header);
-    number(r.size);
+    count(r.start);
+    count(r.header);
+    count(r.size);
     let kind = r.kind;
-    number(kind as usize);
+    count(kind as usize);
     signed(r.sequence);
     let instance = r.instance;
-    number(instance as usize);
+    count(instance as usize);
     signed(r.memory);
 }
 
@@ -113,13 +78,13 @@ pub fn show_answer(a: Opened) {
     match a {
         Opened::Blocks(n) => {
             show(b" blocks");
-            number(n);
+            count(n);
         }
         Opened::Failed(e) => failure(e),
     }
 }
 
-fn count_of(a: Opened) -> usize {
+fn blocks_of(a: Opened) -> usize {
     match a {
         Opened::Blocks(n) => n,
         Opened::Failed(_) => 0,
@@ -129,7 +94,7 @@ fn count_of(a: Opened) -> usize {
 pub fn show_held(h: Held) {
     let rows = h.rows;
     let answer = h.answer;
-    let n = count_of(answer);
+    let n = blocks_of(answer);
     show_answer(answer);
     show_rows(rows, n);
     check_kept(rows, n);

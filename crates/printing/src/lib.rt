@@ -2,6 +2,7 @@
 use libc::STDOUT_FILENO;
 use scan::Error;
 use scan::Span;
+use text::Written;
 
 pub fn show(w: &[u8]) {
     io::write_all(STDOUT_FILENO, w);
@@ -18,23 +19,6 @@ pub fn bracketed(w: &[u8]) {
     show(b"]");
 }
 
-pub fn count(n: usize) {
-    show(b" ");
-    io::print_decimal(STDOUT_FILENO, n as u64);
-}
-
-pub fn end_line() {
-    show(b"\n");
-}
-
-pub fn failure(e: Error) {
-    word(b"error");
-    let code = e.code;
-    count(code as usize);
-    word(b"at");
-    count(e.position);
-}
-
 // The first n bytes in brackets.
 pub fn bracketed_part(s: &[u8], n: usize) {
     bracketed(scan::part(
@@ -44,4 +28,54 @@ pub fn bracketed_part(s: &[u8], n: usize) {
             length: n,
         },
     ));
+}
+
+pub fn long(n: u64) {
+    show(b" ");
+    io::print_decimal(STDOUT_FILENO, n);
+}
+
+pub fn count(n: usize) {
+    long(n as u64);
+}
+
+fn decimal_into(n: i64, out: &mut [u8]) {
+    match text::decimal::write_decimal(n, out) {
+        Written::Length(k) => word(scan::part(
+            out,
+            Span {
+                offset: 0,
+                length: k,
+            },
+        )),
+        Written::Failed(e) => failure(e),
+    }
+}
+
+pub fn signed(n: i64) {
+    let mut out = [0u8; 20];
+    decimal_into(n, &mut out);
+}
+
+fn byte(b: u8) {
+    count(b as usize);
+}
+
+// Each byte as a number.
+pub fn bytes(b: &[u8]) {
+    let mut i = 0;
+    while i < b.len() {
+        byte(b[i]);
+        i += 1;
+    }
+}
+
+pub fn failure(e: Error) {
+    word(b"refused");
+    byte(e.code);
+    count(e.position);
+}
+
+pub fn end_line() {
+    show(b"\n");
 }

@@ -1,0 +1,60 @@
+// 16, for a call on a block: no such block, or no such keyword. An opening error comes first, with its own position.
+use super::build::put_header;
+use keyword::Located;
+use printing::count;
+use printing::end_line;
+use printing::failure;
+use printing::show;
+
+fn show_found(name: &[u8], file: &[u8], block: usize, key: &[u8]) {
+    show(name);
+    show(b":");
+    match edf::find(file, block, key) {
+        Located::At(p) => {
+            count(p.offset);
+            count(p.length);
+        }
+        Located::Failed(e) => failure(e),
+    }
+    end_line();
+}
+
+// A general header and a data block: a key of the own header, then of the general one; keys that start with `edf_` only of the own.
+pub fn examples() {
+    let mut file = [b' '; 1024];
+    put_header(
+        &mut file,
+        0,
+        b"EDF_DataFormatVersion=2.42;EDF_DataBlocks=1;Title=a;Both=b;",
+    );
+    put_header(
+        &mut file,
+        512,
+        b"EDF_DataBlockID=1.Image.Psd;Both= \"cd\" ;",
+    );
+    show_found(b"last block", &file, 1, b"Both");
+    show_found(b"no such block", &file, 2, b"Both");
+    show_found(b"key of the general header", &file, 1, b" ti TLE");
+    show_found(b"no such key", &file, 1, b"titles");
+    show_found(b"empty key", &file, 1, b" ");
+    show_found(b"edf_ key of the own header", &file, 1, b"edf_datablockid");
+    show_found(
+        b"edf_ key of the general header",
+        &file,
+        1,
+        b"edf_datablocks",
+    );
+    show_found(
+        b"edf_ key in the general block",
+        &file,
+        0,
+        b"edf_datablocks",
+    );
+    show_found(
+        b"key of the data block in the general block",
+        &file,
+        0,
+        b"edf_datablockid",
+    );
+    show_found(b"file that does not open", &file[..1023], 9, b"x");
+}
