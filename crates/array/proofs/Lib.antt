@@ -1,5 +1,7 @@
+pub mod CodeLaws
 pub mod DeliveryLaws
 pub mod DescribedLaws
+pub mod FieldLaws
 pub mod Main
 pub mod Nans
 pub mod Pieces

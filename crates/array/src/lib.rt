@@ -1,5 +1,7 @@
 // A block's array.
+pub mod codes;
 pub mod deliver;
+pub mod fields;
 pub mod pixel;
 
 use raster::Pixel;

@@ -1,0 +1,40 @@
+-- `array::fields::data_type` meets its contract.
+use mathlib.Core.Path.{ap}
+use Rattle.keyword.specs.Viewing.{valueBytes}
+use Rattle.array.proofs.FieldLaws.{word-absent, word-there}
+use borrow.Author.Needs.{needs}
+use Rattle.array.proofs.fields.data_type.Statement.{statement}
+use Rattle.array.proofs.fields.data_type.Tie as tie
+
+enum-told : tie.Need-enum-told
+enum-told c = search needs
+
+enum-known-v : tie.Need-enum-known-v
+enum-known-v c = search needs
+
+part-requires : tie.Need-part-requires
+part-requires c κs = search needs
+
+type-code-requires : tie.Need-type-code-requires
+type-code-requires c κs = search needs
+
+known-requires : tie.Need-known-requires
+known-requires c κs = search needs
+
+returns : tie.Need-returns
+returns c = word-absent _ (ap (valueBytes _) (c .enum-told .given .1)) _ _
+
+returns-2 : tie.Need-returns-2
+returns-2 c = word-there _ (ap (valueBytes _) (c .before .before .before .before .v .given .1)) _ (c .before .before .part .ensures) _ _ (c .before .type-code .ensures) (c .known .ensures)
+
+pub data-type-spec : {M : Type 1} → statement M
+data-type-spec =
+    tie.close
+    (tie.spec
+    enum-told
+    enum-known-v
+    part-requires
+    type-code-requires
+    known-requires
+    returns
+    returns-2)
