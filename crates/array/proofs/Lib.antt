@@ -1,6 +1,8 @@
 pub mod CodeLaws
 pub mod DeliveryLaws
+pub mod DescribeLaws
 pub mod DescribedLaws
+pub mod DimLaws
 pub mod FieldLaws
 pub mod Main
 pub mod Nans

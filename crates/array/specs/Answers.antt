@@ -1,4 +1,5 @@
 -- The numbers and values of this layer's answers.
+use mathlib.Core.List.{List, [], _∷_}
 use mathlib.Core.Option.{Option, none, some}
 use Prim.Native.Nat.{ℕ}
 use Rattle.scan.specs.Outcome.{Outcome, ok, failed}
@@ -10,6 +11,13 @@ use Rattle.array.specs.declared.Sampled.{Sampled}
 use Rattle.array.specs.declared.Sampled.the-variants as sampled
 use Rattle.array.specs.declared.codes.Code.{Code}
 use Rattle.array.specs.declared.codes.Code.the-variants as code
+use Rattle.array.specs.declared.describe.Worded.{Worded}
+use Rattle.array.specs.declared.describe.Worded.the-variants as worded
+use Rattle.array.specs.declared.describe.Words.{Words}
+use Rattle.array.specs.declared.dimensions.Dims.{Dims}
+use Rattle.array.specs.declared.dimensions.Dims.the-variants as dims
+use Rattle.array.specs.declared.dimensions.Measured.{Measured}
+use Rattle.array.specs.declared.dimensions.Measured.the-variants as measured
 use Rattle.array.specs.declared.fields.Coded.{Coded}
 use Rattle.array.specs.declared.fields.Coded.the-variants as coded
 use Rattle.array.specs.declared.fields.Ranged.{Ranged}
@@ -29,6 +37,22 @@ codedOutcome (coded.Failed e) = failed e
 abbrev pub rangedOutcome : Ranged → Outcome ℕ
 rangedOutcome (ranged.Value n) = ok n
 rangedOutcome (ranged.Failed e) = failed e
+
+-- Fields 1 to 3, or the error.
+abbrev pub wordedOutcome : Worded → Outcome Words
+wordedOutcome (worded.As w) = ok w
+wordedOutcome (worded.Failed e) = failed e
+
+-- The Dims as a list: the first is that of index 1.
+abbrev pub dimList : Dims → List ℕ
+dimList (dims.One a) = a ∷ []
+dimList (dims.Two a b) = a ∷ b ∷ []
+dimList (dims.Three a b c) = a ∷ b ∷ c ∷ []
+
+-- The Dims, or the error.
+abbrev pub measuredOutcome : Measured → Outcome (List ℕ)
+measuredOutcome (measured.As d) = ok (dimList d)
+measuredOutcome (measured.Failed e) = failed e
 
 -- The description, or the error.
 abbrev pub describedOutcome : Described → Outcome Description

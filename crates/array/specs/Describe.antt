@@ -1,20 +1,21 @@
 -- The description of a block's array, with errors 16 to 21: "Fields, found like any keyword, are checked in this order".
 use mathlib.Core.Bool.{Bool, true, false, not, _||_}
 use mathlib.Core.List.{List, [], _∷_, _++_}
-use mathlib.Core.Option.{Option, Option·map}
+use mathlib.Core.Option.{Option}
 use Prim.Native.Nat.{ℕ, _*_}
 use lib.Dec.{eqb, leb}
 use lib.IntN.{ℤ, pos, negsuc}
 use lib.ListN.{length, getD}
 use Rattle.scan.specs.Byte.{ascii}
 use Rattle.scan.specs.Outcome.{Outcome, ok, require, _>>=_, _>>_}
-use Rattle.header.specs.Entry.{Entry}
-use Rattle.keyword.specs.Keyword.{View, viewOf, lookupIn}
+use Rattle.keyword.specs.Keyword.{View, viewOf}
+use Rattle.keyword.specs.Viewing.{valueIn}
 use Rattle.raster.specs.Axis.{configurations}
 use Rattle.raster.specs.Position.{product}
 use Rattle.raster.specs.Types.{Class, unsigned, signed, float, typeOf, typeWords, orderWords, compressionWords}
 use Rattle.array.specs.Fields.{wordField, rangeField, wholeField, foundFirst, dimsFrom, orEmpty}
 use Rattle.array.specs.declared.Description.{Description}
+use Rattle.array.specs.declared.describe.Words.{Words}
 
 -- Values of fields, by the fields' names.
 abbrev pub Values : Type 0
@@ -32,11 +33,6 @@ dimsOf look = do
   ok (orEmpty ds)
 
 -- Fields 1 to 3, as their codes.
-pub record Words : Type 0 where
-  pub datatype : ℕ
-  pub byteorder : ℕ
-  pub compression : ℕ
-
 unfoldable pub wordsOf : Values → Outcome Words
 wordsOf look = do
   datatype ← wordField 1 typeWords 7 (look (ascii "DataType"))
@@ -85,15 +81,11 @@ described look size = do
   require (offsetAllowed (typeOf (words .datatype) .class) offset) 21 0
   ok (descriptionWith words dims configuration orientation offset)
 
--- The values of a block's fields.
-abbrev pub valuesIn : View → Values
-valuesIn b name = Option·map (λ (e : Entry). e .value) (lookupIn b name)
-
 -- Of a block of a file. 16 also where "an array [is] asked of the general block".
 unfoldable pub descriptionIn : View → Outcome Description
 descriptionIn b = do
   require (eqb (b .row .kind) 1) 16 0
-  described (valuesIn b) (b .row .size)
+  described (valueIn b) (b .row .size)
 
 unfoldable pub descriptionOf : List ℕ → ℕ → Outcome Description
 descriptionOf s block = do

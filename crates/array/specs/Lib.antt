@@ -2,4 +2,5 @@ pub mod Answers
 pub mod Delivery
 pub mod Describe
 pub mod Fields
+pub mod Parts
 pub mod Valid

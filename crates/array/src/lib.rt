@@ -1,6 +1,8 @@
 // A block's array.
 pub mod codes;
 pub mod deliver;
+pub mod describe;
+pub mod dimensions;
 pub mod fields;
 pub mod pixel;
 

@@ -1,18 +1,17 @@
 -- A written file's block describes as the frame that it was written from, and its title reads as the same text.
 use mathlib.Core.Path.{_≡_, refl, sym, ap, _∙_}
-use mathlib.Core.Bool.{true, not}
+use mathlib.Core.Bool.{true}
 use mathlib.Core.List.{List, [], _∷_, map}
 use mathlib.Core.Option.{Option, none, some, Option·map}
 use Prim.Native.Nat.{ℕ, zero, suc, _*_, _≤_}
 use native.Mathlib.Omega.{arith}
 use borrow.Author.Tests.{le-leb}
-use lib.Dec.{eqb}
 use lib.IntN.{pos}
 use lib.ListN.{length, getD, replicate, length-append}
 use mir.Syntax.{w64}
 use mir.Val.{SFits}
 use Rattle.scan.specs.Byte.{ascii}
-use Rattle.scan.specs.Outcome.{Outcome, ok, present, require, _>>=_, _>>_}
+use Rattle.scan.specs.Outcome.{ok, present, _>>=_}
 use Rattle.scan.proofs.Cases.{none-some}
 use Rattle.text.specs.Decimal.{decimal}
 use Rattle.text.specs.Text.{escapedBody, quotedText, textOf, shortText}
@@ -22,14 +21,16 @@ use Rattle.text.proofs.Parts.{each-head, each-tail}
 use Rattle.text.proofs.RoundTrip.{quotes-back, text-back}
 use Rattle.header.specs.Entry.{Entry}
 use Rattle.keyword.specs.Keyword.{lookupIn, entryOf, textIn}
+use Rattle.keyword.specs.Viewing.{valueIn}
 use Rattle.raster.specs.Axis.{configurations}
 use Rattle.raster.specs.Position.{product}
 use Rattle.raster.specs.Types.{Class, unsigned, signed, float}
 use Rattle.raster.proofs.Joined.{joined-length}
 use Rattle.raster.proofs.RoundTrip.{length-bytes}
-use Rattle.array.specs.Describe.{Values, valuesIn, dimsOf, wordsOf, offsetAllowed, described, descriptionIn, descriptionOf}
-use Rattle.array.specs.Fields.{wordField, rangeField, wholeField, foundFirst, dimsFrom, orEmpty}
+use Rattle.array.specs.Describe.{Values, dimsOf, wordsOf, offsetAllowed, described, descriptionIn, descriptionOf}
+use Rattle.array.specs.Fields.{wordField, rangeField, wholeField, foundFirst, dimsFrom}
 use Rattle.array.specs.declared.Description.{Description}
+use Rattle.array.proofs.DimLaws.{dimsBy}
 use Rattle.writer.specs.File.{frameDims, frameType, pixelBytes, storedPixels, fileData, keywordsOf}
 use Rattle.writer.specs.Render.{padding, filled}
 use Rattle.writer.specs.declared.Frame.{Frame}
@@ -51,13 +52,6 @@ dims-read [] h = refl
 dims-read (d ∷ ds) h =
     let r = each-head h in
     rw (decimal-back (pos d) (small d (r .high)), le-leb 1 d (r .low), le-leb d 1048576 (r .high), dims-read ds (each-tail h))
-
--- By what stands for Dim_1 to Dim_4.
-abbrev dimsBy : Option (List ℕ) → Option (List ℕ) → Option (List ℕ) → Option (List ℕ) → Outcome (List ℕ)
-dimsBy a b c d = do
-  ds ← dimsFrom (foundFirst (a ∷ b ∷ c ∷ []))
-  require (not (eqb (length (foundFirst (a ∷ b ∷ c ∷ d ∷ []))) 4)) 19 0
-  ok (orEmpty ds)
 
 dims-by : {ds : List ℕ} → Dims ds → Each (Within 1 1048576) ds → dimsBy (dimText ds 0) (dimText ds 1) (dimText ds 2) none ≡ ok ds
 unfolding foundFirst
@@ -116,7 +110,7 @@ descriptionFor f =
 
 module _ {f : Frame} {title pixels s : List ℕ} (w : Writes f title pixels s) where
   abbrev look : Values
-  look = valuesIn (viewWith (rowOf f title pixels) (keywordsOf f title pixels))
+  look = valueIn (viewWith (rowOf f title pixels) (keywordsOf f title pixels))
 
   looked : Looks look (valuesOf f pixels) (frameDims f) title
   looked = written-looks w

@@ -25,8 +25,8 @@ use Rattle.blocks.specs.declared.Row.{Row}
 use Rattle.blocks.proofs.Answers.{within-limit}
 use Rattle.blocks.proofs.Complete.{opened-complete}
 use Rattle.keyword.specs.Keyword.{View, viewOf, lookupIn, generalEntries}
+use Rattle.keyword.specs.Viewing.{valueIn}
 use Rattle.keyword.specs.Keyword as keyword
-use Rattle.array.specs.Describe.{valuesIn}
 use Rattle.array.specs.Describe as array
 use Rattle.writer.specs.File.{frameDims, fileData, dimKeywords, keywordsOf, fileOf}
 use Rattle.writer.specs.Render.{Keyword, renderedHeader}
@@ -78,7 +78,7 @@ dim-read a = word-read (decimal (pos a)) (decimal-word (pos a))
 
 -- By computing, for one to three Dims.
 pub looks : (row : Row) (v : Values) (t : List ℕ) {ds : List ℕ} → Dims ds → AreWords v
-    → Looks (valuesIn (viewWith row (keywordsWith v ds t))) v ds t
+    → Looks (valueIn (viewWith row (keywordsWith v ds t))) v ds t
 unfolding lookupIn lookup isEdfKey same keyOf strip fold whitespace entriesAt quotedText
 looks row v t (one a) w =
     rw (dim-keywords (one a)) (record {
@@ -149,5 +149,5 @@ module _ {f : Frame} {title pixels s : List ℕ} (w : Writes f title pixels s) w
       rw (w .is) (rendered-view (keywordsOf f title pixels) (fileData f pixels) (written-renders w) (rowOf f title pixels) refl refl (rw (w .is) at opens))
 
   -- The fields that are looked up in it.
-  pub written-looks : Looks (valuesIn (viewWith (rowOf f title pixels) (keywordsOf f title pixels))) (valuesOf f pixels) (frameDims f) title
+  pub written-looks : Looks (valueIn (viewWith (rowOf f title pixels) (keywordsOf f title pixels))) (valuesOf f pixels) (frameDims f) title
   written-looks = rw (keywords-are f title pixels) (looks _ (valuesOf f pixels) title (dims-shape w) (values-words w))
