@@ -20,7 +20,7 @@ enum-known-answer-2 c = search needs
 
 returns-2 : tie.Need-returns-2
 returns-2 c =
-    opening-short _ _ _ (c .before .before .before .before .opened .ensures) (omega arith) (c .before .before .answer2 .given .1) (c .if2 .taken)
+    opening-short _ _ _ (c .before .before .before .before .opened .ensures) (omega arith) (c .before .before .answer2 .given .1) (omega arith)
 
 element-copy-out-view-row : tie.Need-element-copy-out-view-row
 element-copy-out-view-row c = search needs
