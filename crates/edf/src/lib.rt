@@ -1,6 +1,7 @@
 // The public calls. Each takes any bytes and any numbers, and answers what a definition in the layers below gives. Calls on a
 // block take the file and the block's number, from 0, and answer as if they opened the file anew: where the file does not
 // open, the error is that of opening (1 and 3 to 15), with its position.
+use array::Described;
 use blocks::Opened;
 use blocks::Row;
 use keyword::Located;
@@ -17,6 +18,8 @@ ghost use Rattle.blocks.specs.Answers.{openedOutcome};
 ghost use Rattle.blocks.specs.Opening.{openedInto, countOf, tableAfter};
 ghost use Rattle.keyword.specs.Answers.{locatedOutcome, locatedBytes, numberOutcome};
 ghost use Rattle.keyword.specs.Keyword.{found, valueFound, wholeNumberOf, textIn};
+ghost use Rattle.array.specs.Answers.{describedOutcome};
+ghost use Rattle.array.specs.Describe.{descriptionOf};
 ghost use Rattle.edf.specs.Opening.{OpensAs};
 
 // Opens a file into a lent table of at least 256 rows: answers the number of its blocks, and puts the row of each into the table, in
@@ -82,4 +85,13 @@ pub fn unescape(value: &[u8], out: &mut [u8]) -> Written
     ensures { λ _. ⌜ now (out .exit) ≡ bufferAfter (unescaped (now (value .entry))) (now (out .entry)) ⌝ }
 {
     text::escape::unescape(value, out)
+}
+
+// The description of a block's array. Errors: those of opening; 16 no such block, or the general block; 17 unknown word, at
+// the field's number 1 to 3; 18 bad number or range, at the field's number 4 to 7; 19 Dim_1 to Dim_4 all found; 20 data
+// shorter than the array; 21 nonzero offset on floats. The position of 16 and of 19 to 21 is 0.
+pub fn describe(file: &[u8], block: usize) -> Described
+    ensures { λ r. ⌜ describedOutcome r ≡ descriptionOf (now (file .entry)) block ⌝ }
+{
+    array::describe::describe(file, block)
 }
