@@ -18,10 +18,11 @@ use Rattle.text.specs.Number.{wholeNumber}
 use Rattle.raster.specs.Axis.{configurations}
 use Rattle.raster.specs.Position.{product}
 use Rattle.raster.specs.Types.{types, typeOf, typeWords, orderWords, compressionWords, codeFrom, codeOf}
-use Rattle.array.specs.Describe.{Values, Words, dimValues, dimsOf, wordsOf, descriptionWith, offsetAllowed, described}
+use Rattle.array.specs.Describe.{Values, dimValues, dimsOf, wordsOf, descriptionWith, offsetAllowed, described}
 use Rattle.array.specs.Fields.{wordField, inRange, rangeField, wholeField, foundFirst, dimsFrom, orEmpty}
 use Rattle.array.specs.Valid.{ValidArray}
 use Rattle.array.specs.declared.Description.{Description}
+use Rattle.array.specs.declared.describe.Words.{Words}
 
 -- ---- Steps of a `do` block that ends in a value
 
