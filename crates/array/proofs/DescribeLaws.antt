@@ -44,7 +44,8 @@ module _ (look : Values) where
     bad-order f = rw (← e, ← f)
 
     module _ {o : ℕ} (f : ok o ≡ wordField 2 orderWords 1 (look (ascii "ByteOrder"))) where
-      pub bad-compression : {x : Error} → failed x ≡ wordField 3 compressionWords 1 (look (ascii "Compression")) → failed x ≡ wordsOf look
+      pub bad-compression : {x : Error} → failed x ≡ wordField 3 compressionWords 1 (look (ascii "Compression"))
+          → failed x ≡ wordsOf look
       unfolding wordsOf
       bad-compression g = rw (← e, ← f, ← g)
 
@@ -94,8 +95,8 @@ small-extents ds e h = rw e (h 0, h 1, h 2)
 pub narrow : (w : ℕ) → Width w → w ≤ 8
 narrow w h = ⊎-elim (λ e. omega arith) (⊎-elim (λ e. omega arith) (⊎-elim (λ e. omega arith) (λ e. omega arith))) h
 
-module _ (words : Words) (d : Dims) (configuration orientation : ℕ) (offset : ℤ) (size : ℕ) {x : Extents} (e : x ≡ extentsOf (dimList d))
-    {width : ℕ} (w : width ≡ typeOf (words .datatype) .width) where
+module _ (words : Words) (d : Dims) (configuration orientation : ℕ) (offset : ℤ) (size : ℕ)
+    {x : Extents} (e : x ≡ extentsOf (dimList d)) {width : ℕ} (w : width ≡ typeOf (words .datatype) .width) where
   total : x .dim1 * x .dim2 * x .dim3 * width ≡ product (dimList d) * typeOf (words .datatype) .width
   total = rw (e, w, byte-total d)
 

@@ -39,8 +39,8 @@ module _ (front : List ℕ) {o : Option (List ℕ)} where
       unfolding dimsAfter
       bad-dim q = rw (e, ← is, ← q)
 
-      pub next-dim : {d : ℕ} → ok d ≡ present (read v) 18 4 → {x : Outcome (List ℕ)} → x ≡ dimsAfter (front ++ (d ∷ [])) (next ∷ rest)
-          → x ≡ dimsAfter front (o ∷ next ∷ rest)
+      pub next-dim : {d : ℕ} → ok d ≡ present (read v) 18 4 → {x : Outcome (List ℕ)}
+          → x ≡ dimsAfter (front ++ (d ∷ [])) (next ∷ rest) → x ≡ dimsAfter front (o ∷ next ∷ rest)
       unfolding dimsAfter
       next-dim q r = rw (e, ← is, ← q) r
 
@@ -67,7 +67,8 @@ one-by-one (some u) (some v) (some w) (some x) =
     (λ a e. by-option (read v) (λ f. rw (e, f)) (λ b f. by-option (read w) (λ g. rw (e, f, g)) (λ c g. rw (e, f, g))))
 
 pub dims-from-none : (look : Values) {x : Outcome (List ℕ)}
-    → x ≡ dimsAfter [] (look (ascii "Dim_1") ∷ look (ascii "Dim_2") ∷ look (ascii "Dim_3") ∷ look (ascii "Dim_4") ∷ []) → x ≡ dimsOf look
+    → x ≡ dimsAfter [] (look (ascii "Dim_1") ∷ look (ascii "Dim_2") ∷ look (ascii "Dim_3") ∷ look (ascii "Dim_4") ∷ [])
+    → x ≡ dimsOf look
 unfolding dimsOf
 dims-from-none look q = q ∙ one-by-one (look (ascii "Dim_1")) (look (ascii "Dim_2")) (look (ascii "Dim_3")) (look (ascii "Dim_4"))
 
@@ -96,7 +97,8 @@ from-small [] {ds} e = let q : [] ≡ ds = cc in rw (← q) small-nil
 from-small (v ∷ vs) {ds} e =
     by-option (read v) (λ n. absurd (ok-failed (sym (rw n at e))))
     (λ d q. by-outcome (dimsFrom vs)
-    (λ rest r. let p : d ∷ rest ≡ ds = cc (rw (q, r) at e) in rw (← p) (small-cons rest (in-range-most 1048576 (wholeNumber v) q) (from-small vs r)))
+    (λ rest r. let p : d ∷ rest ≡ ds = cc (rw (q, r) at e) in
+    rw (← p) (small-cons rest (in-range-most 1048576 (wholeNumber v) q) (from-small vs r)))
     (λ x r. absurd (ok-failed (sym (rw (q, r) at e)))))
 
 or-empty-small : (ds : List ℕ) → SmallDims ds → SmallDims (orEmpty ds)

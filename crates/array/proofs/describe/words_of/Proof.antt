@@ -1,8 +1,11 @@
 -- `array::describe::words_of` meets its contract.
-use mathlib.Core.Path.{sym, ap, _∙_}
+use mathlib.Core.Path.{_≡_, sym, ap, _∙_}
+use Rattle.scan.specs.Byte.{ascii}
+use Rattle.scan.specs.Outcome.{ok}
 use Rattle.raster.specs.Types.{typeWords, orderWords, compressionWords}
 use Rattle.array.specs.Answers.{codedOutcome}
 use Rattle.array.specs.Fields.{wordField}
+use Rattle.array.specs.Parts.{fieldsOf}
 use Rattle.array.proofs.DescribeLaws.{bad-type, bad-order, bad-compression, good-words}
 use borrow.Author.Needs.{needs}
 use Rattle.array.proofs.describe.words_of.Statement.{statement}
@@ -56,21 +59,26 @@ enum-known-c c = search needs
 returns : tie.Need-returns
 returns c = bad-type _ (sym (ap codedOutcome (c .before .e .given .1)) ∙ c .before .before .before .data-type .ensures ∙ ap (wordField 1 typeWords 7) (c .before .before .before .before .look-up .ensures .1))
 
+-- The codes that were read.
+type-read : (c : tie.After-known-told2) → ok (c .before .t .given .0 .0) ≡ wordField 1 typeWords 7 (fieldsOf (c .before .before .before .before .before .before .before .args .file .now) (c .before .before .before .before .before .before .before .args .b) (ascii "DataType"))
+type-read c = sym (ap codedOutcome (c .before .t .given .1)) ∙ c .before .before .before .data-type .ensures ∙ ap (wordField 1 typeWords 7) (c .before .before .before .before .look-up .ensures .1)
+
+order-read : (c : tie.After-known-told4) → ok (c .before .o .given .0 .0) ≡ wordField 2 orderWords 1 (fieldsOf (c .before .before .before .before .before .before .before .before .before .before .before .before .before .args .file .now) (c .before .before .before .before .before .before .before .before .before .before .before .before .before .args .b) (ascii "ByteOrder"))
+order-read c = sym (ap codedOutcome (c .before .o .given .1)) ∙ c .before .before .before .byte-order .ensures ∙ ap (wordField 2 orderWords 1) (c .before .before .before .before .look-up2 .ensures .1)
+
 returns-2 : tie.Need-returns-2
 returns-2 c =
-    bad-order _ (sym (ap codedOutcome (c .before .before .before .before .before .before .before .t .given .1)) ∙ c .before .before .before .before .before .before .before .before .before .data-type .ensures ∙ ap (wordField 1 typeWords 7) (c .before .before .before .before .before .before .before .before .before .before .look-up .ensures .1))
+    bad-order _ (type-read (c .before .before .before .before .before .before))
     (sym (ap codedOutcome (c .before .e2 .given .1)) ∙ c .before .before .before .byte-order .ensures ∙ ap (wordField 2 orderWords 1) (c .before .before .before .before .look-up2 .ensures .1))
 
 returns-3 : tie.Need-returns-3
 returns-3 c =
-    bad-compression _ (sym (ap codedOutcome (c .before .before .before .before .before .before .before .before .before .before .before .before .before .t .given .1)) ∙ c .before .before .before .before .before .before .before .before .before .before .before .before .before .before .before .data-type .ensures ∙ ap (wordField 1 typeWords 7) (c .before .before .before .before .before .before .before .before .before .before .before .before .before .before .before .before .look-up .ensures .1))
-    (sym (ap codedOutcome (c .before .before .before .before .before .before .before .o .given .1)) ∙ c .before .before .before .before .before .before .before .before .before .byte-order .ensures ∙ ap (wordField 2 orderWords 1) (c .before .before .before .before .before .before .before .before .before .before .look-up2 .ensures .1))
+    bad-compression _ (type-read (c .before .before .before .before .before .before .before .before .before .before .before .before)) (order-read (c .before .before .before .before .before .before))
     (sym (ap codedOutcome (c .before .e3 .given .1)) ∙ c .before .before .before .compression .ensures ∙ ap (wordField 3 compressionWords 1) (c .before .before .before .before .look-up3 .ensures .1))
 
 returns-4 : tie.Need-returns-4
 returns-4 c =
-    good-words _ (sym (ap codedOutcome (c .before .before .before .before .before .before .before .before .before .before .before .before .before .t .given .1)) ∙ c .before .before .before .before .before .before .before .before .before .before .before .before .before .before .before .data-type .ensures ∙ ap (wordField 1 typeWords 7) (c .before .before .before .before .before .before .before .before .before .before .before .before .before .before .before .before .look-up .ensures .1))
-    (sym (ap codedOutcome (c .before .before .before .before .before .before .before .o .given .1)) ∙ c .before .before .before .before .before .before .before .before .before .byte-order .ensures ∙ ap (wordField 2 orderWords 1) (c .before .before .before .before .before .before .before .before .before .before .look-up2 .ensures .1))
+    good-words _ (type-read (c .before .before .before .before .before .before .before .before .before .before .before .before)) (order-read (c .before .before .before .before .before .before))
     (sym (ap codedOutcome (c .before .c .given .1)) ∙ c .before .before .before .compression .ensures ∙ ap (wordField 3 compressionWords 1) (c .before .before .before .before .look-up3 .ensures .1))
 
 pub words-of-spec : {M : Type 1} → statement M
