@@ -1,4 +1,5 @@
 // 16, for a call on a block: no such block, or no such keyword. An opening error comes first, with its own position.
+use super::build::first;
 use super::build::put_header;
 use keyword::Located;
 use printing::count;
@@ -19,6 +20,37 @@ fn show_found(name: &[u8], file: &[u8], block: usize, key: &[u8]) {
     end_line();
 }
 
+fn found_in(name: &[u8], file: &[u8; 1024], block: usize, key: &[u8]) {
+    show_found(name, file, block, key);
+}
+
+fn without_last_byte(file: &[u8; 1024]) {
+    show_found(b"file that does not open", first(file, 1023), 9, b"x");
+}
+
+fn keys(file: &[u8; 1024]) {
+    found_in(b"key of the general header", file, 1, b" ti TLE");
+    found_in(b"no such key", file, 1, b"titles");
+    found_in(b"empty key", file, 1, b" ");
+}
+
+fn edf_keys(file: &[u8; 1024]) {
+    found_in(b"edf_ key of the own header", file, 1, b"edf_datablockid");
+    found_in(
+        b"edf_ key of the general header",
+        file,
+        1,
+        b"edf_datablocks",
+    );
+    found_in(b"edf_ key in the general block", file, 0, b"edf_datablocks");
+    found_in(
+        b"key of the data block in the general block",
+        file,
+        0,
+        b"edf_datablockid",
+    );
+}
+
 // A general header and a data block: a key of the own header, then of the general one; keys that start with `edf_` only of the own.
 pub fn examples() {
     let mut file = [b' '; 1024];
@@ -32,29 +64,9 @@ pub fn examples() {
         512,
         b"EDF_DataBlockID=1.Image.Psd;Both= \"cd\" ;",
     );
-    show_found(b"last block", &file, 1, b"Both");
-    show_found(b"no such block", &file, 2, b"Both");
-    show_found(b"key of the general header", &file, 1, b" ti TLE");
-    show_found(b"no such key", &file, 1, b"titles");
-    show_found(b"empty key", &file, 1, b" ");
-    show_found(b"edf_ key of the own header", &file, 1, b"edf_datablockid");
-    show_found(
-        b"edf_ key of the general header",
-        &file,
-        1,
-        b"edf_datablocks",
-    );
-    show_found(
-        b"edf_ key in the general block",
-        &file,
-        0,
-        b"edf_datablocks",
-    );
-    show_found(
-        b"key of the data block in the general block",
-        &file,
-        0,
-        b"edf_datablockid",
-    );
-    show_found(b"file that does not open", &file[..1023], 9, b"x");
+    found_in(b"last block", &file, 1, b"Both");
+    found_in(b"no such block", &file, 2, b"Both");
+    keys(&file);
+    edf_keys(&file);
+    without_last_byte(&file);
 }
