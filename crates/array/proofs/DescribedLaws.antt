@@ -15,10 +15,12 @@ use Rattle.scan.specs.Byte.{ascii, same}
 use Rattle.scan.specs.Outcome.{Outcome, ok, failed, present, require, _>>=_, _>>_}
 use Rattle.scan.proofs.Cases.{none-some, ok-failed}
 use Rattle.text.specs.Number.{wholeNumber}
+use Rattle.keyword.specs.Keyword.{View}
+use Rattle.keyword.specs.Viewing.{valueIn}
 use Rattle.raster.specs.Axis.{configurations}
 use Rattle.raster.specs.Position.{product}
 use Rattle.raster.specs.Types.{types, typeOf, typeWords, orderWords, compressionWords, codeFrom, codeOf}
-use Rattle.array.specs.Describe.{Values, dimValues, dimsOf, wordsOf, descriptionWith, offsetAllowed, described}
+use Rattle.array.specs.Describe.{Values, dimValues, dimsOf, wordsOf, descriptionWith, offsetAllowed, described, descriptionIn}
 use Rattle.array.specs.Fields.{wordField, inRange, rangeField, wholeField, foundFirst, dimsFrom, orEmpty}
 use Rattle.array.specs.Valid.{ValidArray}
 use Rattle.array.specs.declared.Description.{Description}
@@ -27,11 +29,11 @@ use Rattle.array.specs.declared.describe.Words.{Words}
 -- ---- Steps of a `do` block that ends in a value
 
 module _ {A B : Type 0} where
-  step-ok : (o : Outcome A) (go : A → Outcome B) (y : B) → o >>= go ≡ ok y → (x : A) × (o ≡ ok x) × (go x ≡ ok y)
+  pub step-ok : (o : Outcome A) (go : A → Outcome B) (y : B) → o >>= go ≡ ok y → (x : A) × (o ≡ ok x) × (go x ≡ ok y)
   step-ok (ok x) go y e = (x, refl, e)
   step-ok (failed r) go y e = absurd (ok-failed (sym e))
 
-  check-ok : (o : Outcome A) (rest : Outcome B) (y : B) → o >> rest ≡ ok y → (x : A) × (o ≡ ok x) × (rest ≡ ok y)
+  pub check-ok : (o : Outcome A) (rest : Outcome B) (y : B) → o >> rest ≡ ok y → (x : A) × (o ≡ ok x) × (rest ≡ ok y)
   check-ok (ok x) rest y e = (x, refl, e)
   check-ok (failed r) rest y e = absurd (ok-failed (sym e))
 
@@ -39,7 +41,7 @@ required : (b : Bool) (code position : ℕ) (x : Unit {0}) → require b code po
 required true code position x e = refl
 required false code position x e = absurd (ok-failed (sym e))
 
-same-ok : {A : Type 0} {x y : A} → _≡_ {A = Outcome A} (ok x) (ok y) → x ≡ y
+pub same-ok : {A : Type 0} {x y : A} → _≡_ {A = Outcome A} (ok x) (ok y) → x ≡ y
 same-ok e = cc
 
 -- ---- Words
@@ -229,3 +231,8 @@ described-valid look size d e =
       configured = c;
       stored = rw (m .all) room;
     })
+
+-- The same of a block of a file.
+pub block-valid : (v : View) (d : Description) → descriptionIn v ≡ ok d → ValidArray d (v .row .size)
+unfolding descriptionIn
+block-valid v d e = let p = check-ok (require (eqb (v .row .kind) 1) 16 0) _ d e in described-valid (valueIn v) (v .row .size) d (p .2)

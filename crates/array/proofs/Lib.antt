@@ -9,4 +9,5 @@ pub mod Nans
 pub mod Pieces
 pub mod PixelLaws
 pub mod PixelValues
+pub mod ReadLaws
 pub mod Words

@@ -7,17 +7,20 @@ use native.Mathlib.Nat.{mul-add, mul-assoc, mul-comm, suc-mul, mul-le-mul-right,
 use native.Mathlib.Omega.{arith}
 use lib.ListN.{length, take, drop}
 use lib.Seq.{take-all}
+use Rattle.scan.specs.Outcome.{ok}
 use Rattle.raster.specs.Bytes.{numberOf, joined}
 use Rattle.raster.specs.Pixels.{pixelOf}
+use Rattle.raster.specs.Position.{product}
 use Rattle.raster.specs.Strided.{Octets, placeOf}
 use Rattle.raster.proofs.Stored.{octets-part}
 use Rattle.elements.proofs.RowLaws.{length-element}
-use Rattle.array.specs.Delivery.{arrayType, storedElement, deliveredElement, delivered, isIndex, pixelAt}
+use Rattle.array.specs.Delivery.{Array, arrayType, arrayDims, storedElement, deliveredElement, delivered, arrayOf, arrayIn, isIndex, pixelAt, pixelIn}
 use Rattle.array.specs.Valid.{ValidArray}
 use Rattle.array.specs.declared.Description.{Description}
-use Rattle.array.proofs.DeliveryLaws.{arraySteps, length-delivered-element, length-row, length-plane, stored-place, element-inside, type-width-some}
+use Rattle.array.proofs.DeliveryLaws.{arraySteps, length-delivered-element, length-row, length-plane, length-delivered, stored-place, element-inside, type-width-some}
 use Rattle.array.proofs.Pieces.{piece-part}
 use Rattle.array.proofs.PixelLaws.{bits-delivered, index-inside}
+use Rattle.array.proofs.ReadLaws.{array-seen, array-written}
 
 -- ---- Where an element stands in the array delivered
 
@@ -78,3 +81,24 @@ pixel-delivered d l asked i1 i2 i3 v octets index =
     (sym (bits-delivered (arrayType d) (d .byteorder) (d .offset) (storedElement d l i1 i2 i3) (type-width-some (d .datatype))
     bytes wide asked)
     ∙ ap (numberOf asked) (sym (element-delivered d asked l i1 i2 i3 (h .0) (h .1) (h .2))))
+
+-- ---- The same of what the calls on a file answer
+
+module _ (s : List ℕ) (block asked : ℕ) (a : Array) (w : List ℕ) (e : arrayOf s block ≡ ok a) (f : arrayIn s block asked ≡ ok w) where
+  -- "Delivery writes Dims' product times width bytes"
+  pub length-of-array : length w ≡ product (arrayDims (a .description)) * arrayType (a .description) .width
+  length-of-array =
+      let x = array-seen s block a e in
+      rw (← array-written s block asked a w e f) (length-delivered (a .description) (length (a .bytes)) (x .0) asked (a .bytes))
+
+  -- Each pixel of the array is the value of the bytes that were written at its index.
+  pub pixel-of-array : Octets s → (i1 i2 i3 : ℕ) → isIndex (a .description) i1 i2 i3 ≡ true
+      → let d = a .description in
+      let n = arrayType d .width in
+      pixelIn s block i1 i2 i3
+      ≡ ok (pixelOf (arrayType d .class) n (numberOf asked (take n (drop (n * (i1 + d .dim1 * (i2 + d .dim2 * i3))) w))))
+  unfolding pixelIn
+  pixel-of-array octets i1 i2 i3 index =
+      let x = array-seen s block a e in
+      rw (e, index, ← array-written s block asked a w e f)
+      (ap ok (pixel-delivered (a .description) (a .bytes) asked i1 i2 i3 (x .0) (x .1 octets) index))

@@ -3,4 +3,5 @@ pub mod Delivery
 pub mod Describe
 pub mod Fields
 pub mod Parts
+pub mod Reading
 pub mod Valid

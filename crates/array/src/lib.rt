@@ -5,6 +5,7 @@ pub mod describe;
 pub mod dimensions;
 pub mod fields;
 pub mod pixel;
+pub mod read;
 
 use raster::Pixel;
 use scan::Error;
