@@ -2,6 +2,7 @@
 // block take the file and the block's number, from 0, and answer as if they opened the file anew: where the file does not
 // open, the error is that of opening (1 and 3 to 15), with its position.
 use array::Described;
+use array::Sampled;
 use blocks::Opened;
 use blocks::Row;
 use keyword::Located;
@@ -18,7 +19,8 @@ ghost use Rattle.blocks.specs.Answers.{openedOutcome};
 ghost use Rattle.blocks.specs.Opening.{openedInto, countOf, tableAfter};
 ghost use Rattle.keyword.specs.Answers.{locatedOutcome, locatedBytes, numberOutcome};
 ghost use Rattle.keyword.specs.Keyword.{found, valueFound, wholeNumberOf, textIn};
-ghost use Rattle.array.specs.Answers.{describedOutcome};
+ghost use Rattle.array.specs.Answers.{describedOutcome, sampledOutcome};
+ghost use Rattle.array.specs.Delivery.{arrayIn, pixelIn};
 ghost use Rattle.array.specs.Describe.{descriptionOf};
 ghost use Rattle.edf.specs.Opening.{OpensAs};
 
@@ -94,4 +96,22 @@ pub fn describe(file: &[u8], block: usize) -> Described
     ensures { λ r. ⌜ describedOutcome r ≡ descriptionOf (now (file .entry)) block ⌝ }
 {
     array::describe::describe(file, block)
+}
+
+// The array of a block in a byte order, 1 for high byte first and 2 for low byte first, at the front of the lent buffer: how many
+// bytes. Index 1 runs fastest and index 3 slowest; bytes after these stay. Errors, in which the buffer is untouched: those of
+// `describe`; 24 no such order; 22 buffer too small.
+pub fn read_array(file: &[u8], block: usize, order: u8, out: &mut [u8]) -> Written
+    ensures { λ r. ⌜ writtenOutcome r ≡ lengthWritten (arrayIn (now (file .entry)) block order) (now (out .entry)) ⌝ }
+    ensures { λ _. ⌜ now (out .exit) ≡ bufferAfter (arrayIn (now (file .entry)) block order) (now (out .entry)) ⌝ }
+{
+    array::read::read_array(file, block, order, out)
+}
+
+// One pixel of a block's array: its value at an index of three numbers, those past the array's dimensions being 0. Errors:
+// those of `describe`; 23 index outside.
+pub fn read_pixel(file: &[u8], block: usize, i1: usize, i2: usize, i3: usize) -> Sampled
+    ensures { λ r. ⌜ sampledOutcome r ≡ pixelIn (now (file .entry)) block i1 i2 i3 ⌝ }
+{
+    array::read::read_pixel(file, block, i1, i2, i3)
 }
