@@ -1,6 +1,8 @@
+pub mod Appending
 pub mod Allowed
 pub mod Codes
 pub mod Described
+pub mod FrameChecks
 pub mod Keywords
 pub mod Main
 pub mod Pixels
