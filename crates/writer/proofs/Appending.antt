@@ -101,3 +101,19 @@ repeated-part b n {last} d e h =
 pub repeated-all : {out : List ℕ} (b i : ℕ) (d : List ℕ) → out ≡ over (replicate i b) d → i ≡ length d → out ≡ replicate (length d) b
 repeated-all b i d e h =
     e ∙ over-all (replicate i b) d (omega (arith, length-replicate i b)) ∙ ap (λ (k : ℕ). replicate k b) h
+
+-- ---- Parts of what was appended
+
+-- Nothing.
+pub appended-nothing : (d : List ℕ) (at : ℕ) → at ≤ length d → Appended [] at d d at
+unfolding overAt
+appended-nothing d at h = record { next-is = omega arith; room = h; holds = sym (take-append-drop at d) }
+
+-- What stands in front of the offset that was answered.
+pub front-is : {w d e : List ℕ} {next : ℕ} → Appended w 0 d e next → take next e ≡ w
+unfolding overAt
+front-is {w} {d} {e} {next} a =
+    ap (take next) (a .holds) ∙ take-at w (drop (length w) d) next (omega (arith, a .next-is))
+
+pub front-length : {w d e : List ℕ} {next : ℕ} → Appended w 0 d e next → next ≡ length (take next e)
+front-length {w} a = omega (arith, a .next-is, ap length (front-is a))

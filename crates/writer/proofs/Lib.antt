@@ -4,6 +4,7 @@ pub mod Codes
 pub mod Described
 pub mod FrameChecks
 pub mod Keywords
+pub mod LineLaws
 pub mod Main
 pub mod Pixels
 pub mod Rendered

@@ -1,3 +1,4 @@
 pub mod Append
 pub mod File
+pub mod Front
 pub mod Render
