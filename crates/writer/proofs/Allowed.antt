@@ -64,7 +64,7 @@ memory-decides (pos n) =
     (λ h. let e : n ≡ h .number = cc (h .is) in omega (arith, h .some)) (leb-decides 1 n)
 memory-decides (negsuc n) = fails (λ h. let z : _≡_ {A = ℕ} 0 1 = cc (h .is) in omega arith)
 
-allowed-decides : (f : Frame) → Decides (Allowed f) (frameAllowed f)
+pub allowed-decides : (f : Frame) → Decides (Allowed f) (frameAllowed f)
 unfolding frameAllowed isOrder
 allowed-decides f =
     decides-by

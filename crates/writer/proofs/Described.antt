@@ -59,7 +59,7 @@ dims-by (one a) h = rw (dims-read (a ∷ []) h)
 dims-by (two a b) h = rw (dims-read (a ∷ b ∷ []) h)
 dims-by (three a b c) h = rw (dims-read (a ∷ b ∷ c ∷ []) h)
 
-few-configurations : (n : ℕ) → Within 1 3 n → configurations n ≤ 48
+pub few-configurations : (n : ℕ) → Within 1 3 n → configurations n ≤ 48
 unfolding configurations
 few-configurations zero h = absurd (omega (arith, h .low))
 few-configurations (suc zero) h = omega arith

@@ -6,7 +6,11 @@ pub mod FrameChecks
 pub mod Keywords
 pub mod LineLaws
 pub mod Main
+pub mod OrderTable
 pub mod Pixels
 pub mod Rendered
+pub mod Sizes
+pub mod StoredOrder
 pub mod Viewed
+pub mod Walks
 pub mod Written

@@ -2,7 +2,9 @@
 
 pub mod append;
 pub mod check;
+pub mod dims;
 pub mod lines;
+pub mod order;
 
 // What to write: the identity, the codes of the data type (1 to 10) and the byte order (1 or 2) as in a description, the number
 // of dimensions, the dimensions (those past `n` are not read), and the raster configuration.

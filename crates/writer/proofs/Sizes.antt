@@ -1,0 +1,188 @@
+-- Sizes of arrays that fit, and the axes that the code walks along.
+use mathlib.Core.Path.{_≡_, refl, sym, ap, subst, _∙_}
+use mathlib.Core.Bool.{true}
+use mathlib.Core.List.{List, [], _∷_}
+use Prim.Native.Nat.{ℕ, zero, suc, _+_, _-_, _*_, _≤_, _<_}
+use native.Mathlib.Nat.{zero-mul, mul-one, mul-comm, mul-le-mul-left, mul-le-mul-right}
+use native.Mathlib.Omega.{arith}
+use borrow.Author.Tests.{le-leb, lt-leb}
+use lib.ListN.{take, getD}
+use Rattle.scan.proofs.Decides.{decided}
+use Rattle.text.proofs.Everys.{Each}
+use Rattle.text.proofs.Parts.{each-head, each-tail}
+use Rattle.raster.specs.Axis.{Axis, forward, backward}
+use Rattle.raster.specs.Position.{product, indexOf, dimOf}
+use Rattle.raster.specs.declared.stride.Steps.{Steps}
+use Rattle.writer.specs.File.{frameDims, frameAllowed}
+use Rattle.writer.specs.Stored.{shapeDims, Small, IsShape, axisOf, axisAt, strideOf, upOf, downOf, backOf, stepsAlong, storedSteps}
+use Rattle.writer.specs.declared.Frame.{Frame}
+use Rattle.writer.specs.declared.dims.Shape.{Shape}
+use Rattle.writer.proofs.Allowed.{Within, Allowed, allowed-decides}
+use Rattle.writer.proofs.OrderTable.{Permutes, order-permutes}
+use Rattle.writer.proofs.Walks.{runs, ends-inside, some-dims}
+
+mul-most : (a b x y : ℕ) → a ≤ x → b ≤ y → a * b ≤ x * y
+mul-most a b x y h k = omega (arith, mul-le-mul-left a k, mul-le-mul-right y h)
+
+pub index-dim : (s : Shape) (k j : ℕ) → k ≡ j → dimOf (shapeDims s) (forward j) ≡ dimOf (shapeDims s) (forward k)
+index-dim s k j e = ap (λ (n : ℕ). dimOf (shapeDims s) (forward n)) (sym e)
+
+module _ (s : Shape) (small : Small s) where
+  pub two-most : s .dim2 * s .dim3 ≤ 1099511627776
+  two-most = mul-most (s .dim2) (s .dim3) 1048576 1048576 (small .few2) (small .few3)
+
+  pub three-most : s .dim1 * (s .dim2 * s .dim3) ≤ 1152921504606846976
+  three-most = mul-most (s .dim1) (s .dim2 * s .dim3) 1048576 1099511627776 (small .few1) two-most
+
+  pub first-two-most : s .dim1 * s .dim2 ≤ 1099511627776
+  first-two-most = mul-most (s .dim1) (s .dim2) 1048576 1048576 (small .few1) (small .few2)
+
+  module _ (w : ℕ) (narrow : w ≤ 8) where
+    pub array-most : s .dim1 * (s .dim2 * s .dim3) * w ≤ 9223372036854775808
+    array-most = mul-most (s .dim1 * (s .dim2 * s .dim3)) w 1152921504606846976 8 three-most narrow
+
+    pub array-is : s .dim1 * (s .dim2 * s .dim3) * w ≡ product (shapeDims s) * w
+    unfolding product
+    array-is = ap (λ (x : ℕ). s .dim1 * (s .dim2 * x) * w) (sym (mul-one (s .dim3)))
+
+    pub row-most : w * s .dim1 ≤ 8388608
+    row-most = mul-most w (s .dim1) 8 1048576 narrow (small .few1)
+
+    pub plane-most : w * (s .dim1 * s .dim2) ≤ 8796093022208
+    plane-most = mul-most w (s .dim1 * s .dim2) 8 1099511627776 narrow first-two-most
+
+    -- ---- Strides and dimensions by the number of an index
+
+    pub stride-first : (k : ℕ) → k ≡ 1 → w ≡ strideOf (shapeDims s) w (forward k)
+    unfolding strideOf product
+    stride-first k e = rw e (sym (mul-one w))
+
+    pub stride-second : (k : ℕ) → k ≡ 2 → w * s .dim1 ≡ strideOf (shapeDims s) w (forward k)
+    unfolding strideOf product
+    stride-second k e = rw (e, mul-one (s .dim1))
+
+    pub stride-third : (k : ℕ) → k ≡ 3 → w * (s .dim1 * s .dim2) ≡ strideOf (shapeDims s) w (forward k)
+    unfolding strideOf product
+    stride-third k e = rw (e, mul-one (s .dim2))
+
+    stride-most : (k : ℕ) → 1 ≤ k → k ≤ 3 → strideOf (shapeDims s) w (forward k) ≤ 8796093022208
+    unfolding strideOf product
+    stride-most zero h l = absurd (omega arith)
+    stride-most (suc zero) h l = omega (arith, mul-one w)
+    stride-most (suc (suc zero)) h l = omega (arith, ap (λ (x : ℕ). w * x) (mul-one (s .dim1)), row-most)
+    stride-most (suc (suc (suc zero))) h l = omega (arith, ap (λ (x : ℕ). w * (s .dim1 * x)) (mul-one (s .dim2)), plane-most)
+    stride-most (suc (suc (suc (suc k)))) h l = absurd (omega arith)
+
+  pub dim-within : (k : ℕ) → 1 ≤ k → k ≤ 3 → (1 ≤ dimOf (shapeDims s) (forward k)) × (dimOf (shapeDims s) (forward k) ≤ 1048576)
+  dim-within zero h l = absurd (omega arith)
+  dim-within (suc zero) h l = (small .some1, small .few1)
+  dim-within (suc (suc zero)) h l = (small .some2, small .few2)
+  dim-within (suc (suc (suc zero))) h l = (small .some3, small .few3)
+  dim-within (suc (suc (suc (suc k)))) h l = absurd (omega arith)
+
+  pub back-fits : (w k d t : ℕ) → w ≤ 8 → 1 ≤ k → k ≤ 3 → d ≡ dimOf (shapeDims s) (forward k) → t ≡ strideOf (shapeDims s) w (forward k)
+      → (1 ≤ d) × (t * (d - 1) ≤ 9223372036854775808)
+  back-fits w k d t narrow h l e q =
+      let most = dim-within k h l in
+      (omega arith, mul-most t (d - 1) 8796093022208 1048576 (omega (arith, stride-most w narrow k h l)) (omega arith))
+
+-- ---- One axis
+
+-- What is known of it.
+abbrev pub Ran : List ℕ → ℕ → Axis → ℕ → ℕ → ℕ → ℕ → Type 0
+Ran dims w a dim up down back =
+    ((dim ≡ dimOf dims a) × (up ≡ upOf dims w a)) × ((down ≡ downOf dims w a) × (back ≡ backOf dims w a))
+
+module _ (dims : List ℕ) (w k : ℕ) {d t : ℕ} where
+  pub forward-run : k ≤ 3 → d ≡ dimOf dims (forward k) → t ≡ strideOf dims w (forward k) → Ran dims w (axisOf k) d t 0 0
+  unfolding upOf downOf backOf
+  forward-run h e q = rw (le-leb k 3 h) ((e, q), (refl, sym (zero-mul (dimOf dims (forward k) - 1))))
+
+  pub backward-run : 3 < k → d ≡ dimOf dims (forward (k - 3)) → t ≡ strideOf dims w (forward (k - 3)) → Ran dims w (axisOf k) d 0 t (t * (d - 1))
+  unfolding upOf downOf backOf strideOf
+  backward-run h e q = rw (lt-leb k 3 h) ((e, refl), (q, (λ i. q i * (e i - 1))))
+
+-- ---- Three axes
+
+module _ (s : Shape) (w number : ℕ) (small : Small s) (narrow : w ≤ 8) (low : 1 ≤ number) (high : number ≤ 48) where
+  abbrev dims : List ℕ
+  dims = shapeDims s
+
+  abbrev three : ℕ → Axis
+  three k = axisAt number k
+
+  -- Where they start together.
+  pub starts-fit : backOf dims w (three 0) + backOf dims w (three 1) + backOf dims w (three 2) ≤ 9223372036854775808
+  starts-fit =
+      let p = order-permutes number low high in
+      let d = some-dims (s .dim1) (s .dim2) (s .dim3) (small .some1) (small .some2) (small .some3) p in
+      omega (
+        arith,
+        ends-inside (s .dim1) (s .dim2) (s .dim3) w (three 0) (three 1) (three 2) p (d .0) (d .1) (d .2),
+        runs dims w (three 0) 0 (d .0) .most,
+        runs dims w (three 1) 0 (d .1) .most,
+        runs dims w (three 2) 0 (d .2) .most,
+        array-most s small w narrow,
+        mul-comm w (s .dim1 * (s .dim2 * s .dim3)),
+      )
+
+  pub walk-is : {a1 u1 n1 b1 a2 u2 n2 b2 a3 u3 n3 b3 : ℕ} → Ran dims w (three 0) a1 u1 n1 b1 → Ran dims w (three 1) a2 u2 n2 b2
+      → Ran dims w (three 2) a3 u3 n3 b3
+      → record { at = b1 + b2 + b3; up1 = u1; down1 = n1; up2 = u2; down2 = n2; up3 = u3; down3 = n3 } ≡ storedSteps dims w number
+  unfolding storedSteps stepsAlong
+  walk-is r1 r2 r3 =
+      λ i. record {
+        at = r1 .1 .1 i + r2 .1 .1 i + r3 .1 .1 i;
+        up1 = r1 .0 .1 i;
+        down1 = r1 .1 .0 i;
+        up2 = r2 .0 .1 i;
+        down2 = r2 .1 .0 i;
+        up3 = r3 .0 .1 i;
+        down3 = r3 .1 .0 i;
+      }
+
+pub ran-at : (dims : List ℕ) (w : ℕ) {d u n b : ℕ} {a x : Axis} → a ≡ x → Ran dims w a d u n b → Ran dims w x d u n b
+ran-at dims w {d} {u} {n} {b} e r = subst (λ (y : Axis). Ran dims w y d u n b) e r
+
+-- ---- The shape of a frame
+
+module _ (f : Frame) (ok : frameAllowed f ≡ true) where
+  pub allowed : Allowed f
+  allowed = decided (allowed-decides f) ok
+
+  pub shape-one : f .n ≡ 1 → IsShape f (record { dim1 = f .dim1; dim2 = 1; dim3 = 1 })
+  shape-one e =
+      let ds : Each (Within 1 1048576) (f .dim1 ∷ []) = rw e at (allowed .dims) in
+      let one = each-head ds in
+      record {
+        dims = rw e;
+        second = λ h. refl;
+        third = λ h. refl;
+        small = record { some1 = one .low; some2 = omega arith; some3 = omega arith; few1 = one .high; few2 = omega arith; few3 = omega arith };
+      }
+
+  pub shape-two : f .n ≡ 2 → IsShape f (record { dim1 = f .dim1; dim2 = f .dim2; dim3 = 1 })
+  shape-two e =
+      let ds : Each (Within 1 1048576) (f .dim1 ∷ f .dim2 ∷ []) = rw e at (allowed .dims) in
+      let one = each-head ds in
+      let two = each-head (each-tail ds) in
+      record {
+        dims = rw e;
+        second = λ h. absurd (omega arith);
+        third = λ h. refl;
+        small = record { some1 = one .low; some2 = two .low; some3 = omega arith; few1 = one .high; few2 = two .high; few3 = omega arith };
+      }
+
+  pub shape-three : (f .n ≡ 1 → ⊥) → (f .n ≡ 2 → ⊥) → IsShape f (record { dim1 = f .dim1; dim2 = f .dim2; dim3 = f .dim3 })
+  shape-three h k =
+      let e : f .n ≡ 3 = omega (arith, allowed .n .low, allowed .n .high) in
+      let ds : Each (Within 1 1048576) (f .dim1 ∷ f .dim2 ∷ f .dim3 ∷ []) = rw e at (allowed .dims) in
+      let one = each-head ds in
+      let two = each-head (each-tail ds) in
+      let three = each-head (each-tail (each-tail ds)) in
+      record {
+        dims = refl;
+        second = λ h. absurd (omega arith);
+        third = λ h. absurd (omega arith);
+        small = record { some1 = one .low; some2 = two .low; some3 = three .low; few1 = one .high; few2 = two .high; few3 = three .high };
+      }

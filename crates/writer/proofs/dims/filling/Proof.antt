@@ -1,0 +1,16 @@
+-- `writer::dims::filling` meets its contract.
+use borrow.Author.Needs.{needs}
+use mathlib.Core.Path.{refl}
+use Rattle.writer.specs.Render.{padding}
+use Rattle.writer.proofs.dims.filling.Statement.{statement}
+use Rattle.writer.proofs.dims.filling.Tie as tie
+
+sub-result : tie.Need-sub-result
+sub-result c = search needs
+
+returns : tie.Need-returns
+unfolding padding
+returns c = refl
+
+pub filling-spec : {M : Type 1} → statement M
+filling-spec = tie.close (tie.spec sub-result returns)

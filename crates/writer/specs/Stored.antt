@@ -1,0 +1,77 @@
+-- The pixels read in the order in which they are stored.
+use mathlib.Core.Path.{_≡_}
+use mathlib.Core.Bool.{cond}
+use mathlib.Core.List.{List, [], _∷_}
+use Prim.Native.Nat.{ℕ, _+_, _-_, _*_, _≤_, _<_}
+use lib.Dec.{leb}
+use lib.ListN.{length, take, getD}
+use Rattle.raster.specs.Axis.{Axis, forward, backward, orderOf}
+use Rattle.raster.specs.Position.{product, indexOf, dimOf}
+use Rattle.raster.specs.declared.stride.Steps.{Steps}
+use Rattle.writer.specs.File.{frameDims}
+use Rattle.writer.specs.declared.Frame.{Frame}
+use Rattle.writer.specs.declared.dims.Shape.{Shape}
+
+-- ---- Three dimensions
+
+abbrev pub shapeDims : Shape → List ℕ
+shapeDims s = s .dim1 ∷ s .dim2 ∷ s .dim3 ∷ []
+
+-- The sizes that dimensions and elements have.
+pub record Small (s : Shape) : Type 0 where
+  pub some1 : 1 ≤ s .dim1
+  pub some2 : 1 ≤ s .dim2
+  pub some3 : 1 ≤ s .dim3
+  pub few1 : s .dim1 ≤ 1048576
+  pub few2 : s .dim2 ≤ 1048576
+  pub few3 : s .dim3 ≤ 1048576
+
+-- The dimensions of a frame, with 1 past the last.
+pub record IsShape (f : Frame) (s : Shape) : Type 0 where
+  pub dims : take (f .n) (shapeDims s) ≡ frameDims f
+  pub second : f .n < 2 → s .dim2 ≡ 1
+  pub third : f .n < 3 → s .dim3 ≡ 1
+  pub small : Small s
+
+-- ---- Steps along the order of a configuration
+
+-- An axis by its number: n is index n, and n + 3 is index n backward.
+abbrev pub axisOf : ℕ → Axis
+axisOf k = cond (leb k 3) (forward k) (backward (k - 3))
+
+-- Axis k of a configuration for three indices, counted from 0.
+unfoldable pub axisAt : ℕ → ℕ → Axis
+axisAt number k = getD (orderOf 3 number) k (forward 0)
+
+-- How many bytes one more of an axis' index is on in the pixels, whose configuration is 1, with elements of w bytes.
+unfoldable pub strideOf : List ℕ → ℕ → Axis → ℕ
+strideOf dims w a = w * product (take (indexOf a - 1) dims)
+
+-- So many on, or back; and how far the first element of a backward axis is from the last.
+unfoldable pub upOf : List ℕ → ℕ → Axis → ℕ
+upOf dims w (forward n) = strideOf dims w (forward n)
+upOf dims w (backward n) = 0
+
+unfoldable pub downOf : List ℕ → ℕ → Axis → ℕ
+downOf dims w (forward n) = 0
+downOf dims w (backward n) = strideOf dims w (backward n)
+
+unfoldable pub backOf : List ℕ → ℕ → Axis → ℕ
+backOf dims w a = downOf dims w a * (dimOf dims a - 1)
+
+-- The steps along three axes.
+unfoldable pub stepsAlong : List ℕ → ℕ → Axis → Axis → Axis → Steps
+stepsAlong dims w a b c =
+    record {
+      at = backOf dims w a + backOf dims w b + backOf dims w c;
+      up1 = upOf dims w a;
+      down1 = downOf dims w a;
+      up2 = upOf dims w b;
+      down2 = downOf dims w b;
+      up3 = upOf dims w c;
+      down3 = downOf dims w c;
+    }
+
+-- Those of a configuration.
+unfoldable pub storedSteps : List ℕ → ℕ → ℕ → Steps
+storedSteps dims w number = stepsAlong dims w (axisAt number 0) (axisAt number 1) (axisAt number 2)
