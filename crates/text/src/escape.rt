@@ -25,7 +25,7 @@ fn is_text_byte(b: u8) -> bool
     b <= 127
 }
 
-fn all_text_bytes(l: &[u8]) -> bool
+pub fn all_text_bytes(l: &[u8]) -> bool
     ensures { λ r. ⌜ r ≡ every textByte (now (l .entry)) ⌝ }
 {
     let mut i = 0;
@@ -55,7 +55,7 @@ fn letter(b: u8) -> u8
 }
 
 // How many bytes the escaped characters of text take.
-fn escaped_length(text: &[u8]) -> usize
+pub fn escaped_length(text: &[u8]) -> usize
     ensures { λ r. ⌜ r ≡ length (escapedBody (now (text .entry))) ⌝ }
 {
     let mut n: usize = 0;
@@ -73,7 +73,7 @@ fn escaped_length(text: &[u8]) -> usize
 }
 
 // Writes the escaped characters between quotes.
-fn write_quoted(text: &[u8], out: &mut [u8])
+pub fn write_quoted(text: &[u8], out: &mut [u8])
     requires { ⌜ length (quotedText (now text)) ≤ length (now out) ⌝ }
     ensures { λ _. ⌜ now (out .exit) ≡ over (quotedText (now (text .entry))) (now (out .entry)) ⌝ }
 {

@@ -73,6 +73,9 @@ pub appended-is : {w v d e : List ℕ} {at next : ℕ} → w ≡ v → Appended 
 appended-is {d = d} {e} {at} {next} q a = subst (λ (x : List ℕ). Appended x at d e next) q a
 
 -- At the front of the buffer.
+pub next-length : {w d e : List ℕ} {next : ℕ} → Appended w 0 d e next → next ≡ length w
+next-length {w} a = omega (arith, a .next-is)
+
 pub appended-front : {w d e : List ℕ} {next : ℕ} → Appended w 0 d e next → e ≡ over w d
 unfolding overAt
 appended-front a = a .holds

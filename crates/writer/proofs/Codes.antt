@@ -78,3 +78,9 @@ pub type-wide : (code : ℕ) → Within 1 10 code → 1 ≤ typeOf code .width
 unfolding types typeOf
 type-wide code h =
     from-one (λ c. 1 ≤ typeOf c .width) h (λ k l. leb-true 1 (typeOf (suc k) .width) (below (λ k. leb 1 (typeOf (suc k) .width)) 10 refl k l))
+
+-- And eight at most.
+pub type-narrow : (code : ℕ) → Within 1 10 code → typeOf code .width ≤ 8
+unfolding types typeOf
+type-narrow code h =
+    from-one (λ c. typeOf c .width ≤ 8) h (λ k l. leb-true (typeOf (suc k) .width) 8 (below (λ k. leb (typeOf (suc k) .width) 8) 10 refl k l))

@@ -81,7 +81,7 @@ unfolding pixelBytes
 pixel-length f pixels p = length-bytes (f .byteorder) (frameType f .width) _
 
 -- the stored pixels are as long as the array,
-stored-length : (f : Frame) (pixels : List ℕ) → length (storedPixels f pixels) ≡ product (frameDims f) * frameType f .width
+pub stored-length : (f : Frame) (pixels : List ℕ) → length (storedPixels f pixels) ≡ product (frameDims f) * frameType f .width
 unfolding storedPixels
 stored-length f pixels = joined-length (frameType f .width) _ (λ k. pixel-length f pixels _) (product (frameDims f))
 

@@ -3,6 +3,7 @@ pub mod Allowed
 pub mod Codes
 pub mod Described
 pub mod FrameChecks
+pub mod HeaderLaws
 pub mod Keywords
 pub mod LineLaws
 pub mod Main

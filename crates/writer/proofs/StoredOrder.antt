@@ -1,11 +1,11 @@
 -- The pixels read at the steps of a configuration are the stored pixels.
 use mathlib.Core.Path.{_≡_, refl, sym, ap, subst, _∙_}
-use mathlib.Core.List.{List, [], _∷_}
+use mathlib.Core.List.{List, [], _∷_, _++_}
 use Prim.Native.Nat.{ℕ, zero, suc, _+_, _-_, _*_, _^_, _≤_, _<_}
-use native.Mathlib.Nat.{add-zero, zero-add, mul-zero, mul-one, mul-comm, mul-suc, suc-mul, mul-le-mul-left, mul-le-mul-right}
+use native.Mathlib.Nat.{add-zero, zero-add, mul-zero, mul-one, mul-comm, mul-assoc, mul-suc, suc-mul, mul-le-mul-left, mul-le-mul-right}
 use native.Mathlib.Omega.{arith}
 use lib.IntN.{pos}
-use lib.ListN.{length, take, drop, getD, length-take, length-drop}
+use lib.ListN.{length, take, drop, getD, replicate, length-append, length-take, length-drop, length-replicate}
 use lib.Seq.{getD-take}
 use Rattle.raster.specs.Axis.{Axis, forward, backward, configurations, orderOf}
 use Rattle.raster.specs.Bytes.{numberOf, bytesOf, joined}
@@ -13,19 +13,21 @@ use Rattle.raster.specs.Element.{elementBits, elementBytes}
 use Rattle.raster.specs.Position.{product, indexOf, dimOf, along, coordinate, positionFrom, storedPosition, indexAt, linearPosition}
 use Rattle.raster.specs.Strided.{Octets, placeOf, Inside3, deliveredAt}
 use Rattle.raster.specs.Types.{DataType}
+use Rattle.raster.specs.declared.stride.Steps.{Steps}
 use Rattle.raster.proofs.Inverse.{stored-back}
 use Rattle.raster.proofs.Joined.{joined-same, joined-rows}
 use Rattle.raster.proofs.OrderLaws.{as-three, order-extent}
 use Rattle.raster.proofs.Positions.{extent, position-cons}
 use Rattle.raster.proofs.RoundTrip.{number-bound, offset-zero}
 use Rattle.raster.proofs.Stored.{octets-part}
-use Rattle.writer.specs.File.{frameDims, frameType, pixelBytes, storedPixels}
+use Rattle.writer.specs.File.{frameDims, frameType, pixelBytes, storedPixels, fileData}
+use Rattle.writer.specs.Render.{padding, filled}
 use Rattle.writer.specs.Stored.{axisAt, strideOf, stepsAlong, storedSteps, shapeDims, Small, IsShape}
 use Rattle.writer.specs.declared.Frame.{Frame}
 use Rattle.writer.specs.declared.dims.Shape.{Shape}
 use Rattle.writer.proofs.Allowed.{Within, Allowed}
 use Rattle.writer.proofs.Codes.{type-wide}
-use Rattle.writer.proofs.Described.{few-configurations}
+use Rattle.writer.proofs.Described.{few-configurations, stored-length}
 use Rattle.writer.proofs.OrderTable.{order-axes, order-permutes}
 use Rattle.writer.proofs.Walks.{Placed, placed, placed-bytes, walk-inside, some-dims, below}
 
@@ -232,3 +234,54 @@ module _ (f : Frame) (s : Shape) (allowed : Allowed f) (shape : IsShape f s) (pi
   shape-product =
       ap product (sym (shape .dims))
       ∙ few-product (s .dim1) (s .dim2) (s .dim3) (f .n) (allowed .n .low) (allowed .n .high) (shape .second) (shape .third)
+
+  -- What reading them asks, and gives, at steps and dimensions that are those.
+  pub record Walked (t : Steps) (n1 n2 n3 : ℕ) : Type 0 where
+    pub inside : Inside3 t n1 n2 n3 w (length pixels)
+    pub row : w * n1 ≤ length pixels
+    pub room : w * n1 * n2 * n3 ≡ length pixels
+    pub is : deliveredAt (frameType f) 1 (pos 0) (f .byteorder) pixels t n1 n2 n3 ≡ storedPixels f pixels
+
+  walked-along : Walked (storedSteps all w (f .configuration)) (dimOf all (axis 0)) (dimOf all (axis 1)) (dimOf all (axis 2))
+  walked-along =
+      let n = allowed .n in
+      let c = allowed .configuration in
+      let few = few-configurations (f .n) n in
+      let p = order-permutes (f .configuration) (c .low) (omega (arith, c .high)) in
+      let d = some-dims (s .dim1) (s .dim2) (s .dim3) (shape .small .some1) (shape .small .some2) (shape .small .some3) p in
+      let d1 = dimOf all (axis 0) in
+      let d2 = dimOf all (axis 1) in
+      let d3 = dimOf all (axis 2) in
+      let count = axes-count (f .n) (f .configuration) (s .dim1) (s .dim2) (s .dim3) (n .low) (n .high) (shape .second) (shape .third) (c .low) (c .high)
+      ∙ few-product (s .dim1) (s .dim2) (s .dim3) (f .n) (n .low) (n .high) (shape .second) (shape .third) in
+      let exact : w * d1 * d2 * d3 ≡ length pixels =
+      mul-assoc (w * d1) d2 d3 ∙ mul-assoc w d1 (d2 * d3) ∙ ap (λ (x : ℕ). w * x) count ∙ mul-comm w (product all) ∙ sym whole in
+      let one : 1 * 1 ≤ d2 * d3 = omega (arith, mul-le-mul-left d2 (d .2), mul-le-mul-right 1 (d .1)) in
+      record {
+        inside = stored-inside;
+        row = omega (arith, mul-le-mul-left (w * d1) one, mul-one (w * d1), mul-assoc (w * d1) d2 d3, exact);
+        room = exact;
+        is = stored-delivered;
+      }
+
+  pub walked : {t : Steps} {n1 n2 n3 v : ℕ} → v ≡ w → t ≡ storedSteps all v (f .configuration) → n1 ≡ dimOf all (axis 0)
+      → n2 ≡ dimOf all (axis 1) → n3 ≡ dimOf all (axis 2) → Walked t n1 n2 n3
+  walked {t} {n1} {n2} {n3} {v} ev et e1 e2 e3 =
+      subst (λ (x : Steps). Walked x n1 n2 n3) (sym (et ∙ ap (λ (x : ℕ). storedSteps all x (f .configuration)) ev))
+      (subst (λ (x : ℕ). Walked (storedSteps all w (f .configuration)) x n2 n3) (sym e1)
+      (subst (λ (x : ℕ). Walked (storedSteps all w (f .configuration)) (dimOf all (axis 0)) x n3) (sym e2)
+      (subst (λ (x : ℕ). Walked (storedSteps all w (f .configuration)) (dimOf all (axis 0)) (dimOf all (axis 1)) x) (sym e3) walked-along)))
+
+  -- The lengths of the pixels as stored, and with their filling.
+  pub stored-whole : length (storedPixels f pixels) ≡ length pixels
+  stored-whole = stored-length f pixels ∙ ap (λ (x : ℕ). x * w) shape-product ∙ sym whole
+
+  pub data-is : (k : ℕ) → k ≡ padding (length pixels) → storedPixels f pixels ++ replicate k 0 ≡ fileData f pixels
+  unfolding fileData filled
+  data-is k e = ap (λ (n : ℕ). storedPixels f pixels ++ replicate n 0) (e ∙ ap padding (sym stored-whole))
+
+  pub data-length : length (fileData f pixels) ≡ length pixels + padding (length pixels)
+  unfolding fileData filled
+  data-length =
+      let n = padding (length (storedPixels f pixels)) in
+      omega (arith, length-append (storedPixels f pixels) (replicate n 0), length-replicate {A = ℕ} n 0, stored-whole, ap padding stored-whole)

@@ -2,7 +2,9 @@
 
 pub mod append;
 pub mod check;
+pub mod data;
 pub mod dims;
+pub mod heading;
 pub mod lines;
 pub mod order;
 

@@ -1,0 +1,72 @@
+// The header of a written file.
+use crate::Frame;
+use crate::append::append;
+use crate::append::append_repeated;
+use crate::dims::Shape;
+use crate::dims::filling;
+use crate::lines::dim_lines;
+use crate::lines::identity_line;
+use crate::lines::number_line;
+use crate::lines::order_line;
+use crate::lines::type_line;
+use text::escape::write_quoted;
+ghost use mathlib.Core.Path.{_≡_};
+ghost use mathlib.Core.Bool.{true};
+ghost use mathlib.Core.List.{_++_};
+ghost use Prim.Native.Nat.{_+_, _≤_};
+ghost use lib.ListN.{length};
+ghost use Rattle.scan.specs.Byte.{ascii};
+ghost use Rattle.text.specs.Text.{quotedText};
+ghost use Rattle.writer.specs.Append.{Appended};
+ghost use Rattle.writer.specs.File.{frameAllowed};
+ghost use Rattle.writer.specs.Front.{leading, front, titled, closed};
+ghost use Rattle.writer.specs.Render.{lines};
+ghost use Rattle.writer.specs.Stored.{IsShape};
+
+// The lines before the title.
+fn put_leading(f: Frame, s: Shape, size: usize, out: &mut [u8], at: usize) -> usize
+    requires { ⌜ (frameAllowed f ≡ true) × IsShape f s × (size ≤ 1073741824) ⌝ }
+    requires { ⌜ at + 321 ≤ length (now out) ⌝ }
+    ensures { λ r. ⌜ Appended (lines (leading f size)) at (now (out .entry)) (now (out .exit)) r ⌝ }
+    ensures { λ r. ⌜ r ≤ at + 321 ⌝ }
+{
+    let a = identity_line(f.sequence, f.instance, f.memory, out, at);
+    let b = number_line(b"EDF_BinarySize", size, out, a);
+    let c = order_line(f.byteorder, out, b);
+    let d = type_line(f.datatype, out, c);
+    let e = dim_lines(f.n, s.dim1, s.dim2, s.dim3, out, d);
+    number_line(b"DataRasterConfiguration", f.configuration as usize, out, e)
+}
+
+// The header up to the value of Title.
+pub fn put_front(f: Frame, s: Shape, size: usize, out: &mut [u8]) -> usize
+    requires { ⌜ (frameAllowed f ≡ true) × IsShape f s × (size ≤ 1073741824) ⌝ }
+    requires { ⌜ 332 ≤ length (now out) ⌝ }
+    ensures { λ r. ⌜ Appended (front f size) 0 (now (out .entry)) (now (out .exit)) r ⌝ }
+    ensures { λ r. ⌜ r ≤ 332 ⌝ }
+{
+    let a = append(b"{\r\n", out, 0);
+    let b = put_leading(f, s, size, out, a);
+    append(b"Title = ", out, b)
+}
+
+fn put_quoted(title: &[u8], out: &mut [u8], at: usize) -> usize
+    requires { ⌜ (length (now title) ≤ 1023) × (at + length (quotedText (now title)) ≤ length (now out)) ⌝ }
+    ensures { λ r. ⌜ Appended (quotedText (now (title .entry))) at (now (out .entry)) (now (out .exit)) r ⌝ }
+{
+    write_quoted(title, &mut out[at..]);
+    at + text::escape::escaped_length(title) + 2
+}
+
+// The whole header, of its front and the title.
+pub fn put_header(first: &[u8], title: &[u8], out: &mut [u8]) -> usize
+    requires { ⌜ (length (now first) ≤ 332) × (length (now title) ≤ 1023) ⌝ }
+    requires { ⌜ length (closed (titled (now first) (now title))) ≤ length (now out) ⌝ }
+    ensures { λ r. ⌜ Appended (closed (titled (now (first .entry)) (now (title .entry)))) 0 (now (out .entry)) (now (out .exit)) r ⌝ }
+{
+    let a = append(first, out, 0);
+    let b = put_quoted(title, out, a);
+    let c = append(b" ;\r\n", out, b);
+    let d = append_repeated(32, filling(c + 4), out, c);
+    append(b"\r\n}\n", out, d)
+}
