@@ -100,7 +100,7 @@ lines-length (k ∷ ks) h =
       lines-length ks (each-tail h),
     )
 
-padding-small : (n : ℕ) → padding n ≤ 511
+pub padding-small : (n : ℕ) → padding n ≤ 511
 unfolding padding
 padding-small n = omega arith
 

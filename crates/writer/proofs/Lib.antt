@@ -2,6 +2,7 @@ pub mod Appending
 pub mod Allowed
 pub mod Codes
 pub mod Described
+pub mod FileLaws
 pub mod FrameChecks
 pub mod HeaderLaws
 pub mod Keywords

@@ -4,6 +4,7 @@ pub mod append;
 pub mod check;
 pub mod data;
 pub mod dims;
+pub mod file;
 pub mod heading;
 pub mod lines;
 pub mod order;
