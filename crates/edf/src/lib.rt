@@ -9,6 +9,7 @@ use keyword::Located;
 use keyword::Number;
 use scan::Span;
 use text::Written;
+use writer::Frame;
 ghost use mathlib.Core.Path.{_≡_};
 ghost use lib.ListN.{length};
 ghost use Rattle.scan.specs.Buffer.{lengthWritten, bufferAfter};
@@ -22,6 +23,7 @@ ghost use Rattle.keyword.specs.Keyword.{found, valueFound, wholeNumberOf, textI
 ghost use Rattle.array.specs.Answers.{describedOutcome, sampledOutcome};
 ghost use Rattle.array.specs.Delivery.{arrayIn, pixelIn};
 ghost use Rattle.array.specs.Describe.{descriptionOf};
+ghost use Rattle.writer.specs.File.{writtenFile};
 ghost use Rattle.edf.specs.Opening.{OpensAs};
 
 // Opens a file into a lent table of at least 256 rows: answers the number of its blocks, and puts the row of each into the table, in
@@ -114,4 +116,15 @@ pub fn read_pixel(file: &[u8], block: usize, i1: usize, i2: usize, i3: usize) ->
     ensures { λ r. ⌜ sampledOutcome r ≡ pixelIn (now (file .entry)) block i1 i2 i3 ⌝ }
 {
     array::read::read_pixel(file, block, i1, i2, i3)
+}
+
+// Writes a file of one block at the front of the lent buffer: how many bytes. The pixels come in raster configuration 1, with the high
+// byte first; the file has them in the frame's configuration and byte order, filled with zero bytes to a multiple of 512. Errors,
+// in which the buffer is untouched: 24 a code, memory, dimension or configuration that is not allowed, pixels not as long as the
+// frame describes, a byte of the title outside 1 to 127, or a file over 1,073,741,824 bytes; 25 title too long; 22 buffer too small.
+pub fn write(frame: Frame, title: &[u8], pixels: &[u8], out: &mut [u8]) -> Written
+    ensures { λ r. ⌜ writtenOutcome r ≡ lengthWritten (writtenFile frame (now (title .entry)) (now (pixels .entry))) (now (out .entry)) ⌝ }
+    ensures { λ _. ⌜ now (out .exit) ≡ bufferAfter (writtenFile frame (now (title .entry)) (now (pixels .entry))) (now (out .entry)) ⌝ }
+{
+    writer::file::write(frame, title, pixels, out)
 }
