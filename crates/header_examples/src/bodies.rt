@@ -2,13 +2,13 @@
 use crate::lists::BODY;
 use crate::lists::show_each;
 use crate::values::yes_or_no;
+use examples::bracketed;
+use examples::count;
+use examples::end_line;
+use examples::failure;
+use examples::show;
+use examples::word;
 use header::Checked;
-use printing::bracketed;
-use printing::count;
-use printing::end_line;
-use printing::failure;
-use printing::show;
-use printing::word;
 use scan::Span;
 
 fn show_checked(s: &[u8], from: usize, start: usize) {

@@ -1,10 +1,10 @@
 // The frame of a header.
+use examples::count;
+use examples::end_line;
+use examples::failure;
+use examples::show;
+use examples::word;
 use header::Framed;
-use printing::count;
-use printing::end_line;
-use printing::failure;
-use printing::show;
-use printing::word;
 
 fn show_framed(s: &[u8], start: usize) {
     match header::frame::header_at(s, start) {

@@ -1,12 +1,12 @@
 // Whole numbers.
 use crate::lists::WHOLE;
 use crate::lists::show_each;
-use printing::bracketed;
-use printing::bracketed_part;
-use printing::end_line;
-use printing::failure;
-use printing::show;
-use printing::word;
+use examples::bracketed;
+use examples::bracketed_part;
+use examples::end_line;
+use examples::failure;
+use examples::show;
+use examples::word;
 use text::Written;
 use text::number::Whole;
 

@@ -1,12 +1,12 @@
 // Statements, and finding a key.
+use examples::bracketed;
+use examples::count;
+use examples::end_line;
+use examples::show;
+use examples::word;
 use header::Next;
 use header::Statement;
 use header::lookup::Sought;
-use printing::bracketed;
-use printing::count;
-use printing::end_line;
-use printing::show;
-use printing::word;
 
 fn show_statement(t: Statement) {
     count(t.first);

@@ -2,11 +2,11 @@
 use crate::lists::ESCAPE;
 use crate::lists::UNESCAPE;
 use crate::lists::show_each;
-use printing::bracketed;
-use printing::count;
-use printing::end_line;
-use printing::failure;
-use printing::show;
+use examples::bracketed;
+use examples::count;
+use examples::end_line;
+use examples::failure;
+use examples::show;
 use text::Written;
 
 fn show_written(w: Written) {

@@ -1,11 +1,11 @@
 // Keys and values.
 use crate::lists::VALUE;
 use crate::lists::show_each;
-use printing::bracketed;
-use printing::count;
-use printing::end_line;
-use printing::show;
-use printing::word;
+use examples::bracketed;
+use examples::count;
+use examples::end_line;
+use examples::show;
+use examples::word;
 
 pub fn yes_or_no(b: bool) {
     if b {

@@ -1,11 +1,11 @@
 // 16, for a call on a block: no such block, or no such keyword. An opening error comes first, with its own position.
 use super::build::first;
-use super::build::put_header;
+use examples::build::put_header;
+use examples::count;
+use examples::end_line;
+use examples::failure;
+use examples::show;
 use keyword::Located;
-use printing::count;
-use printing::end_line;
-use printing::failure;
-use printing::show;
 
 fn show_found(name: &[u8], file: &[u8], block: usize, key: &[u8]) {
     show(name);

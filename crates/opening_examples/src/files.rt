@@ -1,8 +1,8 @@
 // 12 to 15: the data of a block, and the blocks of a file.
-use super::build::put_header;
 use super::build::show_blocks;
 use super::build::show_first;
 use super::build::show_one;
+use examples::build::put_header;
 
 fn data_sizes() {
     show_one(b"data up to the end", b"{Size=10;", b"}\n", 512, 10);

@@ -2,10 +2,10 @@
 use super::lend::Held;
 use blocks::Opened;
 use blocks::Row;
-use printing::count;
-use printing::failure;
-use printing::show;
-use printing::signed;
+use examples::count;
+use examples::failure;
+use examples::show;
+use examples::signed;
 
 fn show_row(r: Row) {
     show(b" |");

@@ -1,8 +1,8 @@
 // 6, 7 and 8: the statements of a header.
 use super::build::first;
-use super::build::put;
 use super::build::show_blocks;
 use super::build::show_first;
+use examples::build::put;
 
 fn forms() {
     show_blocks(b"a=;", b"a=;|");

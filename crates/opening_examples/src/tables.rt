@@ -1,9 +1,9 @@
 // 1 and 2, which are due before a file's bytes are looked at. A file over 1,073,741,824 bytes does not fit this program's memory, so
 // the test that decides 1 is run on lengths. What `edf::open` does for a table of so many rows is decided by `planned`: 2 is run there.
 use super::print::show_answer;
+use examples::show;
 use opening::table::planned;
 use opening::table::within_limit;
-use printing::show;
 
 fn show_limit(name: &[u8], length: usize) {
     show(name);

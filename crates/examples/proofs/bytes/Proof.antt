@@ -1,9 +1,9 @@
--- `printing::bytes` meets its contract: it is safe and ends.
+-- `examples::bytes` meets its contract: it is safe and ends.
 use Prim.Native.Nat.{_≤_, _-_}
 use borrow.Author.Needs.{needs}
 use lib.ListN.{length}
-use Rattle.printing.proofs.bytes.Statement.{statement}
-use Rattle.printing.proofs.bytes.Tie as tie
+use Rattle.examples.proofs.bytes.Statement.{statement}
+use Rattle.examples.proofs.bytes.Tie as tie
 
 abbrev Inv-loop : tie.InvT-loop
 Inv-loop b i₀ i = i ≤ length b

@@ -2,8 +2,8 @@ use mathlib.Core.Path.{_≡_}
 use Prim.Native.Nat.{_+_, _-_}
 use lib.ListN.{length}
 use borrow.Author.Needs.{needs}
-use Rattle.opening_examples.proofs.build.put.Statement.{statement}
-use Rattle.opening_examples.proofs.build.put.Tie as tie
+use Rattle.examples.proofs.build.put.Statement.{statement}
+use Rattle.examples.proofs.build.put.Tie as tie
 
 abbrev Inv-loop : tie.InvT-loop
 Inv-loop out₀ at text room i₀ out i = (length out ≡ length out₀) × (at + room ≡ length out₀)

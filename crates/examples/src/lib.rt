@@ -1,4 +1,6 @@
-// What the programs of examples print: lines of a name, then each part after a space.
+// What the programs of examples share: the files they build, and the lines they print, of a name and then each part after a space.
+pub mod build;
+
 use libc::STDOUT_FILENO;
 use scan::Error;
 use scan::Span;
