@@ -1,4 +1,6 @@
+pub mod CallLaws
 pub mod Examples
+pub mod Main
 pub mod OpeningLaws
 pub mod TableLaws
 pub mod Walks

@@ -1,0 +1,165 @@
+-- What the contracts of calls say of an answer: the variant that an outcome is, and the bytes that a call wrote.
+use mathlib.Core.Path.{_≡_, refl, sym, ap, _∙_}
+use mathlib.Core.Bool.{Bool, true, false}
+use mathlib.Core.List.{List, _++_}
+use Prim.Native.Nat.{ℕ, _≤_, _<_}
+use borrow.Author.Tests.{le-leb, lt-leb, lt-ltb}
+use lib.Dec.{leb}
+use lib.ListN.{length, take, drop}
+use lib.Seq.{take-at, drop-at}
+use Rattle.scan.specs.Buffer.{lengthWritten, bufferAfter}
+use Rattle.scan.specs.Outcome.{Outcome, ok, failed, require, _>>_}
+use Rattle.scan.proofs.Cases.{by-test, by-order, ok-failed}
+use Rattle.text.specs.Answers.{writtenOutcome}
+use Rattle.text.specs.Text.{every, textByte, valueByte, shortText, quotedText, escaped, unescaped}
+use Rattle.text.specs.declared.Written.{Written}
+use Rattle.text.specs.declared.Written.the-variants as written
+use Rattle.text.proofs.Parts.{every-each, each-every}
+use Rattle.text.proofs.Quoted.{quoted-bytes}
+use Rattle.text.proofs.RoundTrip.{text-back}
+use Rattle.blocks.specs.Answers.{openedOutcome}
+use Rattle.blocks.specs.Grammar.{Partition}
+use Rattle.blocks.specs.declared.Opened.{Opened}
+use Rattle.blocks.specs.declared.Opened.the-variants as opened
+use Rattle.blocks.specs.declared.Row.{Row}
+use Rattle.keyword.specs.Keyword.{viewOf}
+use Rattle.array.specs.Answers.{describedOutcome, sampledOutcome}
+use Rattle.array.specs.Delivery.{dataOf, arrayOf, isIndex}
+use Rattle.array.specs.Describe.{descriptionIn, descriptionOf}
+use Rattle.array.specs.declared.Described.{Described}
+use Rattle.array.specs.declared.Described.the-variants as described
+use Rattle.array.specs.declared.Description.{Description}
+use Rattle.array.specs.declared.Sampled.{Sampled}
+use Rattle.array.specs.declared.Sampled.the-variants as sampled
+use Rattle.array.proofs.DescribedLaws.{step-ok, check-ok, same-ok}
+use Rattle.array.proofs.ReadLaws.{array-is}
+use Rattle.raster.specs.declared.Pixel.{Pixel}
+use Rattle.writer.specs.declared.Frame.{Frame}
+use Rattle.writer.proofs.Allowed as writer
+use Rattle.edf.specs.Calls.{IntoBuffer, Open}
+use Rattle.edf.proofs.OpeningLaws.{opens-as}
+
+-- ---- The answer by its outcome
+
+abbrev pub writtenBy : Outcome ℕ → Written
+writtenBy (ok n) = written.Length n
+writtenBy (failed e) = written.Failed e
+
+pub written-by : (r : Written) {o : Outcome ℕ} → writtenOutcome r ≡ o → r ≡ writtenBy o
+written-by (written.Length n) e = ap writtenBy e
+written-by (written.Failed x) e = ap writtenBy e
+
+abbrev pub openedBy : Outcome ℕ → Opened
+openedBy (ok n) = opened.Blocks n
+openedBy (failed e) = opened.Failed e
+
+pub opened-by : (r : Opened) {o : Outcome ℕ} → openedOutcome r ≡ o → r ≡ openedBy o
+opened-by (opened.Blocks n) e = ap openedBy e
+opened-by (opened.Failed x) e = ap openedBy e
+
+abbrev pub describedBy : Outcome Description → Described
+describedBy (ok d) = described.Array d
+describedBy (failed e) = described.Failed e
+
+pub described-by : (r : Described) {o : Outcome Description} → describedOutcome r ≡ o → r ≡ describedBy o
+described-by (described.Array d) e = ap describedBy e
+described-by (described.Failed x) e = ap describedBy e
+
+abbrev pub sampledBy : Outcome Pixel → Sampled
+sampledBy (ok p) = sampled.Value p
+sampledBy (failed e) = sampled.Failed e
+
+pub sampled-by : (r : Sampled) {o : Outcome Pixel} → sampledOutcome r ≡ o → r ≡ sampledBy o
+sampled-by (sampled.Value p) e = ap sampledBy e
+sampled-by (sampled.Failed x) e = ap sampledBy e
+
+-- ---- A call that writes
+
+module _ (w before : List ℕ) where
+  length-fits : length w ≤ length before → lengthWritten (ok w) before ≡ ok (length w)
+  unfolding lengthWritten
+  length-fits h = rw (le-leb (length w) (length before) h)
+
+  buffer-fits : length w ≤ length before → bufferAfter (ok w) before ≡ w ++ drop (length w) before
+  unfolding bufferAfter
+  buffer-fits h = rw (le-leb (length w) (length before) h)
+
+  no-room : {n : ℕ} → length before < length w → lengthWritten (ok w) before ≡ ok n → ⊥
+  unfolding lengthWritten
+  no-room h e = ok-failed (sym (rw (lt-leb (length w) (length before) h) at e))
+
+-- Where there is room, the call answers how many bytes and puts them at the front.
+pub with-room : {o : Outcome (List ℕ)} {w : List ℕ} → o ≡ ok w → {before : List ℕ} {r : Written} {after : List ℕ}
+    → length w ≤ length before → IntoBuffer o before r after → (r ≡ written.Length (length w)) × (after ≡ w ++ drop (length w) before)
+with-room {o} {w} e {before} {r} h c = (
+  written-by r (c .answers ∙ ap (λ (x : Outcome (List ℕ)). lengthWritten x before) e ∙ length-fits w before h),
+  c .leaves ∙ ap (λ (x : Outcome (List ℕ)). bufferAfter x before) e ∙ buffer-fits w before h,
+)
+
+-- A call that answered a length wrote so many bytes, and nothing else.
+pub wrote : (o : Outcome (List ℕ)) {before after : List ℕ} {n : ℕ} → IntoBuffer o before (written.Length n) after
+    → (o ≡ ok (take n after)) × (drop n after ≡ drop n before)
+unfolding lengthWritten
+wrote (failed x) c = absurd (ok-failed (c .answers))
+wrote (ok w) {before} {after} {n} c =
+    by-order (length w) (length before)
+    (λ h.
+    let long : length w ≡ n = sym (same-ok (c .answers ∙ length-fits w before h)) in
+    let left : after ≡ w ++ drop (length w) before = c .leaves ∙ buffer-fits w before h in (
+      ap ok (sym (ap (take n) left ∙ take-at w (drop (length w) before) n long)),
+      ap (drop n) left ∙ drop-at w (drop (length w) before) n long ∙ ap (λ (k : ℕ). drop k before) long,
+    ))
+    (λ h. absurd (no-room w before h (sym (c .answers))))
+
+-- Two calls on the same give the same.
+pub same-written : {o : Outcome (List ℕ)} {before : List ℕ} {r q : Written} {after left : List ℕ}
+    → IntoBuffer o before r after → IntoBuffer o before q left → (r ≡ q) × (after ≡ left)
+same-written {r = r} {q = q} c d =
+    (written-by r (c .answers) ∙ sym (written-by q (d .answers)), c .leaves ∙ sym (d .leaves))
+
+-- ---- Text
+
+required : (b : Bool) {x : Unit {0}} → require b 24 0 ≡ ok x → b ≡ true
+required true e = refl
+required false e = absurd (ok-failed (sym e))
+
+short-text : (t : List ℕ) {x : List ℕ} → shortText t ≡ ok x → shortText t ≡ ok t
+unfolding shortText
+short-text t e = by-test (leb (length t) 1023) (λ q. rw q) (λ q. absurd (ok-failed (sym (rw q at e))))
+
+-- Text in value form comes back.
+pub unescaped-back : (t : List ℕ) {w : List ℕ} → escaped t ≡ ok w → unescaped w ≡ ok t
+unfolding escaped unescaped
+unescaped-back t {w} e =
+    let p = check-ok (require (every textByte t) 24 0) (shortText t >> ok (quotedText t)) w e in
+    let q = check-ok (shortText t) (ok (quotedText t)) w (p .2) in
+    let bytes = quoted-bytes t (every-each textByte t (required (every textByte t) (p .1))) in
+    rw (← same-ok (q .2), each-every valueByte (quotedText t) bytes, text-back t) (short-text t (q .1))
+
+-- ---- A described block
+
+-- A block that has a description has an array of that description.
+pub has-array : (s : List ℕ) (block : ℕ) (d : Description) → descriptionOf s block ≡ ok d
+    → (l : List ℕ) × (arrayOf s block ≡ ok (record { description = d; bytes = l }))
+unfolding descriptionOf
+has-array s block d e =
+    let p = step-ok (viewOf s block) descriptionIn d e in
+    (dataOf s (p .0), sym (array-is s block (p .0) (sym (p .1)) (sym (p .2))))
+
+pub index-test : (d : Description) (i1 i2 i3 : ℕ) → i1 < d .dim1 → i2 < d .dim2 → i3 < d .dim3 → isIndex d i1 i2 i3 ≡ true
+unfolding isIndex
+index-test d i1 i2 i3 h1 h2 h3 = rw (lt-ltb i1 (d .dim1) h1, lt-ltb i2 (d .dim2) h2, lt-ltb i3 (d .dim3) h3)
+
+-- ---- Opening
+
+-- What `open` gives for a file with a partition.
+pub opens-rows : {s : List ℕ} {rows : List Row} → Partition s rows → length s ≤ 1073741824 → {table left : List Row} {r : Opened}
+    → 256 ≤ length table → Open s table r left
+    → (r ≡ opened.Blocks (length rows)) × (take (length rows) left ≡ rows) × (drop (length rows) left ≡ drop (length rows) table)
+opens-rows {s} c small {table} {left} {r} h o =
+    let g = opens-as s table r left (o .answers) (o .leaves) .gives (record { file = small; table = h }) c in
+    (g .count, g .first, g .later)
+
+-- A written file is within the limit.
+pub file-small : {f : Frame} {title pixels s : List ℕ} → writer.Writes f title pixels s → length s ≤ 1073741824
+file-small w = rw (w .is) (w .small)

@@ -1,0 +1,130 @@
+-- The main theorems about the public calls. `Write`, `Open` and the others of specs/Calls are the contracts of the calls of these
+-- names, so `Open file before r after` is any call of `open` on `file`, whose table held `before`, that answers r and leaves `after`.
+use mathlib.Core.Path.{_≡_, sym, _∙_}
+use mathlib.Core.List.{List, [], _∷_, _++_}
+use Prim.Native.Nat.{ℕ, _+_, _*_, _≤_, _<_}
+use lib.ListN.{length, take, drop}
+use Rattle.scan.specs.Byte.{ascii}
+use Rattle.scan.specs.Outcome.{Outcome, ok}
+use Rattle.text.specs.declared.Written.{Written}
+use Rattle.text.specs.declared.Written.the-variants.{Length}
+use Rattle.blocks.specs.Grammar.{Partition}
+use Rattle.blocks.specs.declared.Opened.{Opened}
+use Rattle.blocks.specs.declared.Opened.the-variants.{Blocks}
+use Rattle.blocks.specs.declared.Row.{Row}
+use Rattle.raster.specs.Bytes.{numberOf}
+use Rattle.raster.specs.Pixels.{pixelOf}
+use Rattle.raster.specs.Position.{product}
+use Rattle.raster.specs.Strided.{Octets}
+use Rattle.array.specs.Delivery.{arrayType, arrayDims}
+use Rattle.array.specs.declared.Described.{Described}
+use Rattle.array.specs.declared.Described.the-variants as described
+use Rattle.array.specs.declared.Description.{Description}
+use Rattle.array.specs.declared.Sampled.{Sampled}
+use Rattle.array.specs.declared.Sampled.the-variants as sampled
+use Rattle.array.proofs.Main as array
+use Rattle.writer.specs.File.{frameDims, frameType, writtenFile}
+use Rattle.writer.specs.declared.Frame.{Frame}
+use Rattle.writer.proofs.Allowed.{Writes, written-says, written-is}
+use Rattle.writer.proofs.Described.{descriptionFor}
+use Rattle.writer.proofs.Main as writer
+use Rattle.writer.proofs.Pixels.{Inside, positionIn, pixel}
+use Rattle.writer.proofs.Written.{Fits, rowOf}
+use Rattle.edf.specs.Calls.{IntoBuffer, Open, Text, Escape, Unescape, Describe, ReadArray, ReadPixel, Write}
+use Rattle.edf.proofs.CallLaws.{opened-by, described-by, sampled-by, with-room, wrote, same-written, unescaped-back, has-array, index-test, file-small, opens-rows}
+
+-- ---- What is written reads back, for every frame, title and pixels: all types, one to three dimensions, every configuration
+
+-- A frame, title and pixels that are allowed (`Writes` lists the conditions) are written, if the buffer has room for the file.
+pub writes : {f : Frame} {title pixels file before after : List ℕ} {r : Written} → Writes f title pixels file → length file ≤ length before
+    → Write f title pixels before r after → (r ≡ Length (length file)) × (after ≡ file ++ drop (length file) before)
+writes w h c = with-room (written-is w) h c
+
+-- A call of `write` that answered a length n and left `after` in its buffer. Every frame keeps `Fits`, whose numbers are i64, and every
+-- slice of u8 keeps `Octets`.
+module _ (f : Frame) (title pixels before after : List ℕ) (n : ℕ) (fits : Fits f) (octets : Octets pixels)
+    (call : Write f title pixels before (Length n) after) where
+  -- The bytes written.
+  abbrev file : List ℕ
+  file = take n after
+
+  -- They are the file that the definition gives, for arguments that are allowed; all later bytes of the buffer are as before.
+  pub written : writtenFile f title pixels ≡ ok file
+  written = wrote _ call .0
+
+  pub allowed : Writes f title pixels file
+  allowed = written-says f title pixels written
+
+  pub rest-kept : drop n after ≡ drop n before
+  rest-kept = wrote _ call .1
+
+  -- The file is one block, with the frame's identity.
+  pub one-block : Partition file (rowOf f title pixels ∷ [])
+  one-block = writer.one-block f title pixels fits written
+
+  -- `open` answers 1 and gives its row; all later rows of the table are as before.
+  pub opens : {table left : List Row} {r : Opened} → 256 ≤ length table → Open file table r left
+      → (r ≡ Blocks 1) × (take 1 left ≡ rowOf f title pixels ∷ []) × (drop 1 left ≡ drop 1 table)
+  opens h c = opens-rows one-block (file-small allowed) h c
+
+  -- `describe` gives the frame: type, byte order, dimensions and configuration; orientation 1 and offset 0.
+  pub describes : {r : Described} → Describe file 0 r → r ≡ described.Array (descriptionFor f)
+  describes {r} c = described-by r (c .answers ∙ writer.describes f title pixels fits written)
+
+  -- `text` gives the title.
+  pub title-reads : {room left : List ℕ} {r : Written} → length title ≤ length room → Text file 0 (ascii "Title") room r left
+      → (r ≡ Length (length title)) × (left ≡ title ++ drop (length title) room)
+  title-reads h c = with-room (writer.reads f title pixels fits written) h c
+
+  -- `read_array` with the high byte first gives the pixels.
+  pub pixels-read : {room left : List ℕ} {r : Written} → length pixels ≤ length room → ReadArray file 0 1 room r left
+      → (r ≡ Length (length pixels)) × (left ≡ pixels ++ drop (length pixels) room)
+  pixels-read h c = with-room (writer.delivers f title pixels fits written octets) h c
+
+  -- `read_pixel` gives the value of the pixel's bytes, at every index.
+  pub pixel-reads : {i1 i2 i3 : ℕ} {r : Sampled} → Inside (frameDims f) i1 i2 i3 → ReadPixel file 0 i1 i2 i3 r
+      → let bytes = pixel f pixels (positionIn (frameDims f) i1 i2 i3) in
+      r ≡ sampled.Value (pixelOf (frameType f .class) (frameType f .width) (numberOf 1 bytes))
+  pixel-reads {i1} {i2} {i3} {r} h c = sampled-by r (c .answers ∙ writer.samples f title pixels fits written octets i1 i2 i3 h)
+
+-- ---- Text in value form reads back
+
+pub text-back : (text : List ℕ) {before after : List ℕ} {n : ℕ} → Escape text before (Length n) after
+    → {room left : List ℕ} {r : Written} → length text ≤ length room → Unescape (take n after) room r left
+    → (r ≡ Length (length text)) × (left ≡ text ++ drop (length text) room)
+text-back text c h d = with-room (unescaped-back text (wrote _ c .0)) h d
+
+-- ---- One pixel and the array are one thing seen twice, in any file
+
+-- Calls of `describe` and `read_array` on one block, in either byte order.
+module _ (s : List ℕ) (block order : ℕ) (d : Description) (before after : List ℕ) (n : ℕ)
+    (describe : Describe s block (described.Array d)) (read : ReadArray s block order before (Length n) after) where
+  -- The bytes delivered are as many as the description says,
+  pub array-length : length (take n after) ≡ product (arrayDims d) * arrayType d .width
+  array-length = array.length-of-array s block order _ (take n after) (has-array s block d (sym (describe .answers)) .1) (wrote _ read .0)
+
+  -- and `read_pixel` gives the value of those at its index.
+  pub pixel-of-array : {i1 i2 i3 : ℕ} {r : Sampled} → Octets s → i1 < d .dim1 → i2 < d .dim2 → i3 < d .dim3 → ReadPixel s block i1 i2 i3 r
+      → let w = arrayType d .width in
+      let bytes = take w (drop (w * (i1 + d .dim1 * (i2 + d .dim2 * i3))) (take n after)) in
+      r ≡ sampled.Value (pixelOf (arrayType d .class) w (numberOf order bytes))
+  pixel-of-array {i1} {i2} {i3} {r} octets h1 h2 h3 c =
+      sampled-by r (c .answers ∙ array.pixel-of-array s block order _ (take n after) (has-array s block d (sym (describe .answers)) .1) (wrote _ read .0)
+      octets i1 i2 i3 (index-test d i1 i2 i3 h1 h2 h3))
+
+-- ---- A call has one answer
+
+pub one-opening : {s : List ℕ} {table : List Row} {r q : Opened} {after left : List Row} → Open s table r after → Open s table q left
+    → (r ≡ q) × (after ≡ left)
+one-opening {r = r} {q = q} c d = (opened-by r (c .answers) ∙ sym (opened-by q (d .answers)), c .leaves ∙ sym (d .leaves))
+
+pub one-description : {s : List ℕ} {block : ℕ} {r q : Described} → Describe s block r → Describe s block q → r ≡ q
+one-description {r = r} {q = q} c d = described-by r (c .answers) ∙ sym (described-by q (d .answers))
+
+pub one-pixel : {s : List ℕ} {block i1 i2 i3 : ℕ} {r q : Sampled} → ReadPixel s block i1 i2 i3 r → ReadPixel s block i1 i2 i3 q → r ≡ q
+one-pixel {r = r} {q = q} c d = sampled-by r (c .answers) ∙ sym (sampled-by q (d .answers))
+
+-- Those that write into a lent buffer: `text`, `escape`, `unescape`, `read_array` and `write`.
+pub one-writing : {o : Outcome (List ℕ)} {room : List ℕ} {r q : Written} {after left : List ℕ} → IntoBuffer o room r after
+    → IntoBuffer o room q left → (r ≡ q) × (after ≡ left)
+one-writing = same-written

@@ -1,0 +1,73 @@
+-- The contracts of the public calls, as relations between what a call was given, its answer, and what it leaves in lent memory. Each
+-- is what the `ensures` of the call of that name says.
+use mathlib.Core.Path.{_≡_}
+use mathlib.Core.List.{List}
+use Prim.Native.Nat.{ℕ}
+use lib.ListN.{length}
+use Rattle.scan.specs.Buffer.{lengthWritten, bufferAfter}
+use Rattle.scan.specs.Outcome.{Outcome}
+use Rattle.text.specs.Answers.{writtenOutcome}
+use Rattle.text.specs.Text.{escaped, unescaped}
+use Rattle.text.specs.declared.Written.{Written}
+use Rattle.blocks.specs.Answers.{openedOutcome}
+use Rattle.blocks.specs.Opening.{openedInto, countOf, tableAfter}
+use Rattle.blocks.specs.declared.Opened.{Opened}
+use Rattle.blocks.specs.declared.Row.{Row}
+use Rattle.keyword.specs.Answers.{locatedOutcome, locatedBytes, numberOutcome}
+use Rattle.keyword.specs.Keyword.{found, valueFound, wholeNumberOf, textIn}
+use Rattle.keyword.specs.declared.Located.{Located}
+use Rattle.keyword.specs.declared.Number.{Number}
+use Rattle.array.specs.Answers.{describedOutcome, sampledOutcome}
+use Rattle.array.specs.Delivery.{arrayIn, pixelIn}
+use Rattle.array.specs.Describe.{descriptionOf}
+use Rattle.array.specs.declared.Described.{Described}
+use Rattle.array.specs.declared.Sampled.{Sampled}
+use Rattle.writer.specs.File.{writtenFile}
+use Rattle.writer.specs.declared.Frame.{Frame}
+
+-- A call that is to write what a definition gives, into a lent buffer that held `before`: it answers r and leaves `after`.
+pub record IntoBuffer (o : Outcome (List ℕ)) (before : List ℕ) (r : Written) (after : List ℕ) : Type 0 where
+  pub answers : writtenOutcome r ≡ lengthWritten o before
+  pub leaves : after ≡ bufferAfter o before
+
+-- open(file, table)
+pub record Open (file : List ℕ) (before : List Row) (r : Opened) (after : List Row) : Type 0 where
+  pub answers : openedOutcome r ≡ countOf (openedInto (length before) file)
+  pub leaves : after ≡ tableAfter (openedInto (length before) file) before
+
+-- find(file, block, key)
+pub record Find (file : List ℕ) (block : ℕ) (key : List ℕ) (r : Located) : Type 0 where
+  pub answers : locatedOutcome r ≡ found file block key
+  pub bytes : locatedBytes file r ≡ valueFound file block key
+
+-- whole_number(file, block, key)
+pub record WholeNumber (file : List ℕ) (block : ℕ) (key : List ℕ) (r : Number) : Type 0 where
+  pub answers : numberOutcome r ≡ wholeNumberOf file block key
+
+-- text(file, block, key, out)
+abbrev pub Text : List ℕ → ℕ → List ℕ → List ℕ → Written → List ℕ → Type 0
+Text file block key = IntoBuffer (textIn file block key)
+
+-- escape(bytes, out)
+abbrev pub Escape : List ℕ → List ℕ → Written → List ℕ → Type 0
+Escape bytes = IntoBuffer (escaped bytes)
+
+-- unescape(value, out)
+abbrev pub Unescape : List ℕ → List ℕ → Written → List ℕ → Type 0
+Unescape value = IntoBuffer (unescaped value)
+
+-- describe(file, block)
+pub record Describe (file : List ℕ) (block : ℕ) (r : Described) : Type 0 where
+  pub answers : describedOutcome r ≡ descriptionOf file block
+
+-- read_array(file, block, order, out)
+abbrev pub ReadArray : List ℕ → ℕ → ℕ → List ℕ → Written → List ℕ → Type 0
+ReadArray file block order = IntoBuffer (arrayIn file block order)
+
+-- read_pixel(file, block, i1, i2, i3)
+pub record ReadPixel (file : List ℕ) (block i1 i2 i3 : ℕ) (r : Sampled) : Type 0 where
+  pub answers : sampledOutcome r ≡ pixelIn file block i1 i2 i3
+
+-- write(frame, title, pixels, out)
+abbrev pub Write : Frame → List ℕ → List ℕ → List ℕ → Written → List ℕ → Type 0
+Write frame title pixels = IntoBuffer (writtenFile frame title pixels)
