@@ -2,7 +2,7 @@
 use mathlib.Core.Path.{_≡_, refl, sym, ap, _∙_}
 use mathlib.Core.Bool.{Bool, true, false}
 use mathlib.Core.List.{List, _++_}
-use Prim.Native.Nat.{ℕ, _≤_, _<_}
+use Prim.Native.Nat.{ℕ, _+_, _*_, _≤_, _<_}
 use borrow.Author.Tests.{le-leb, lt-leb, lt-ltb}
 use lib.Dec.{leb}
 use lib.ListN.{length, take, drop}
@@ -24,7 +24,7 @@ use Rattle.blocks.specs.declared.Opened.the-variants as opened
 use Rattle.blocks.specs.declared.Row.{Row}
 use Rattle.keyword.specs.Keyword.{viewOf}
 use Rattle.array.specs.Answers.{describedOutcome, sampledOutcome}
-use Rattle.array.specs.Delivery.{dataOf, arrayOf, isIndex}
+use Rattle.array.specs.Delivery.{arrayType, arrayDims, dataOf, arrayOf, arrayIn, isIndex, pixelIn}
 use Rattle.array.specs.Describe.{descriptionIn, descriptionOf}
 use Rattle.array.specs.declared.Described.{Described}
 use Rattle.array.specs.declared.Described.the-variants as described
@@ -32,11 +32,16 @@ use Rattle.array.specs.declared.Description.{Description}
 use Rattle.array.specs.declared.Sampled.{Sampled}
 use Rattle.array.specs.declared.Sampled.the-variants as sampled
 use Rattle.array.proofs.DescribedLaws.{step-ok, check-ok, same-ok}
+use Rattle.array.proofs.Main.{length-of-array, pixel-of-array}
 use Rattle.array.proofs.ReadLaws.{array-is}
+use Rattle.raster.specs.Bytes.{numberOf}
+use Rattle.raster.specs.Pixels.{pixelOf}
+use Rattle.raster.specs.Position.{product}
+use Rattle.raster.specs.Strided.{Octets}
 use Rattle.raster.specs.declared.Pixel.{Pixel}
 use Rattle.writer.specs.declared.Frame.{Frame}
 use Rattle.writer.proofs.Allowed as writer
-use Rattle.edf.specs.Calls.{IntoBuffer, Open}
+use Rattle.edf.specs.Calls.{IntoBuffer, Open, Describe, ReadArray}
 use Rattle.edf.proofs.OpeningLaws.{opens-as}
 
 -- ---- The answer by its outcome
@@ -97,18 +102,25 @@ with-room {o} {w} e {before} {r} h c = (
 )
 
 -- A call that answered a length wrote so many bytes, and nothing else.
-pub wrote : (o : Outcome (List ℕ)) {before after : List ℕ} {n : ℕ} → IntoBuffer o before (written.Length n) after
-    → (o ≡ ok (take n after)) × (drop n after ≡ drop n before)
+pub record Wrote (o : Outcome (List ℕ)) (before after : List ℕ) (n : ℕ) : Type 0 where
+  pub bytes : o ≡ ok (take n after)
+  pub count : length (take n after) ≡ n
+  pub rest : drop n after ≡ drop n before
+
+pub wrote : (o : Outcome (List ℕ)) {before after : List ℕ} {n : ℕ} → IntoBuffer o before (written.Length n) after → Wrote o before after n
 unfolding lengthWritten
 wrote (failed x) c = absurd (ok-failed (c .answers))
 wrote (ok w) {before} {after} {n} c =
     by-order (length w) (length before)
     (λ h.
     let long : length w ≡ n = sym (same-ok (c .answers ∙ length-fits w before h)) in
-    let left : after ≡ w ++ drop (length w) before = c .leaves ∙ buffer-fits w before h in (
-      ap ok (sym (ap (take n) left ∙ take-at w (drop (length w) before) n long)),
-      ap (drop n) left ∙ drop-at w (drop (length w) before) n long ∙ ap (λ (k : ℕ). drop k before) long,
-    ))
+    let left : after ≡ w ++ drop (length w) before = c .leaves ∙ buffer-fits w before h in
+    let front : take n after ≡ w = ap (take n) left ∙ take-at w (drop (length w) before) n long in
+    record {
+      bytes = ap ok (sym front);
+      count = ap length front ∙ long;
+      rest = ap (drop n) left ∙ drop-at w (drop (length w) before) n long ∙ ap (λ (k : ℕ). drop k before) long;
+    })
     (λ h. absurd (no-room w before h (sym (c .answers))))
 
 -- Two calls on the same give the same.
@@ -139,16 +151,34 @@ unescaped-back t {w} e =
 -- ---- A described block
 
 -- A block that has a description has an array of that description.
-pub has-array : (s : List ℕ) (block : ℕ) (d : Description) → descriptionOf s block ≡ ok d
+has-array : (s : List ℕ) (block : ℕ) (d : Description) → descriptionOf s block ≡ ok d
     → (l : List ℕ) × (arrayOf s block ≡ ok (record { description = d; bytes = l }))
 unfolding descriptionOf
 has-array s block d e =
     let p = step-ok (viewOf s block) descriptionIn d e in
     (dataOf s (p .0), sym (array-is s block (p .0) (sym (p .1)) (sym (p .2))))
 
-pub index-test : (d : Description) (i1 i2 i3 : ℕ) → i1 < d .dim1 → i2 < d .dim2 → i3 < d .dim3 → isIndex d i1 i2 i3 ≡ true
+index-test : (d : Description) (i1 i2 i3 : ℕ) → i1 < d .dim1 → i2 < d .dim2 → i3 < d .dim3 → isIndex d i1 i2 i3 ≡ true
 unfolding isIndex
 index-test d i1 i2 i3 h1 h2 h3 = rw (lt-ltb i1 (d .dim1) h1, lt-ltb i2 (d .dim2) h2, lt-ltb i3 (d .dim3) h3)
+
+-- Calls of `describe` and `read_array` on one block.
+module _ (s : List ℕ) (block order : ℕ) {d : Description} {before after : List ℕ} {n : ℕ}
+    (describe : Describe s block (described.Array d)) (read : ReadArray s block order before (written.Length n) after) where
+  pub delivered-length : n ≡ product (arrayDims d) * arrayType d .width
+  delivered-length =
+      let a = has-array s block d (sym (describe .answers)) in
+      let r = wrote (arrayIn s block order) read in
+      sym (r .count) ∙ length-of-array s block order _ (take n after) (a .1) (r .bytes)
+
+  pub delivered-pixel : Octets s → (i1 i2 i3 : ℕ) → i1 < d .dim1 → i2 < d .dim2 → i3 < d .dim3
+      → let w = arrayType d .width in
+      pixelIn s block i1 i2 i3
+      ≡ ok (pixelOf (arrayType d .class) w (numberOf order (take w (drop (w * (i1 + d .dim1 * (i2 + d .dim2 * i3))) (take n after)))))
+  delivered-pixel octets i1 i2 i3 h1 h2 h3 =
+      let a = has-array s block d (sym (describe .answers)) in
+      let r = wrote (arrayIn s block order) read in
+      pixel-of-array s block order _ (take n after) (a .1) (r .bytes) octets i1 i2 i3 (index-test d i1 i2 i3 h1 h2 h3)
 
 -- ---- Opening
 

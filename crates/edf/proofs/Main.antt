@@ -6,6 +6,7 @@ use Prim.Native.Nat.{ℕ, _+_, _*_, _≤_, _<_}
 use lib.ListN.{length, take, drop}
 use Rattle.scan.specs.Byte.{ascii}
 use Rattle.scan.specs.Outcome.{Outcome, ok}
+use Rattle.text.specs.Text.{escaped}
 use Rattle.text.specs.declared.Written.{Written}
 use Rattle.text.specs.declared.Written.the-variants.{Length}
 use Rattle.blocks.specs.Grammar.{Partition}
@@ -22,7 +23,6 @@ use Rattle.array.specs.declared.Described.the-variants as described
 use Rattle.array.specs.declared.Description.{Description}
 use Rattle.array.specs.declared.Sampled.{Sampled}
 use Rattle.array.specs.declared.Sampled.the-variants as sampled
-use Rattle.array.proofs.Main as array
 use Rattle.writer.specs.File.{frameDims, frameType, writtenFile}
 use Rattle.writer.specs.declared.Frame.{Frame}
 use Rattle.writer.proofs.Allowed.{Writes, written-says, written-is}
@@ -31,7 +31,7 @@ use Rattle.writer.proofs.Main as writer
 use Rattle.writer.proofs.Pixels.{Inside, positionIn, pixel}
 use Rattle.writer.proofs.Written.{Fits, rowOf}
 use Rattle.edf.specs.Calls.{IntoBuffer, Open, Text, Escape, Unescape, Describe, ReadArray, ReadPixel, Write}
-use Rattle.edf.proofs.CallLaws.{opened-by, described-by, sampled-by, with-room, wrote, same-written, unescaped-back, has-array, index-test, file-small, opens-rows}
+use Rattle.edf.proofs.CallLaws.{opened-by, described-by, sampled-by, with-room, wrote, same-written, unescaped-back, delivered-length, delivered-pixel, opens-rows, file-small}
 
 -- ---- What is written reads back, for every frame, title and pixels: all types, one to three dimensions, every configuration
 
@@ -40,23 +40,26 @@ pub writes : {f : Frame} {title pixels file before after : List ℕ} {r : Writte
     → Write f title pixels before r after → (r ≡ Length (length file)) × (after ≡ file ++ drop (length file) before)
 writes w h c = with-room (written-is w) h c
 
--- A call of `write` that answered a length n and left `after` in its buffer. Every frame keeps `Fits`, whose numbers are i64, and every
--- slice of u8 keeps `Octets`.
-module _ (f : Frame) (title pixels before after : List ℕ) (n : ℕ) (fits : Fits f) (octets : Octets pixels)
-    (call : Write f title pixels before (Length n) after) where
-  -- The bytes written.
+-- A call of `write` that answered n and left `after` in its buffer. Every frame keeps `Fits`: its numbers are i64.
+module _ (f : Frame) (title pixels before after : List ℕ) (n : ℕ) (fits : Fits f) (call : Write f title pixels before (Length n) after) where
+  -- The bytes written: n bytes.
   abbrev file : List ℕ
   file = take n after
 
-  -- They are the file that the definition gives, for arguments that are allowed; all later bytes of the buffer are as before.
-  pub written : writtenFile f title pixels ≡ ok file
-  written = wrote _ call .0
+  pub file-length : length file ≡ n
+  file-length = wrote (writtenFile f title pixels) call .count
 
+  -- They are the file that the definition gives,
+  pub written : writtenFile f title pixels ≡ ok file
+  written = wrote (writtenFile f title pixels) call .bytes
+
+  -- of arguments that are allowed;
   pub allowed : Writes f title pixels file
   allowed = written-says f title pixels written
 
+  -- all later bytes of the buffer are as before.
   pub rest-kept : drop n after ≡ drop n before
-  rest-kept = wrote _ call .1
+  rest-kept = wrote (writtenFile f title pixels) call .rest
 
   -- The file is one block, with the frame's identity.
   pub one-block : Partition file (rowOf f title pixels ∷ [])
@@ -76,23 +79,23 @@ module _ (f : Frame) (title pixels before after : List ℕ) (n : ℕ) (fits : Fi
       → (r ≡ Length (length title)) × (left ≡ title ++ drop (length title) room)
   title-reads h c = with-room (writer.reads f title pixels fits written) h c
 
-  -- `read_array` with the high byte first gives the pixels.
-  pub pixels-read : {room left : List ℕ} {r : Written} → length pixels ≤ length room → ReadArray file 0 1 room r left
+  -- `read_array` with the high byte first gives the pixels. Every slice of u8 keeps `Octets`.
+  pub pixels-read : {room left : List ℕ} {r : Written} → Octets pixels → length pixels ≤ length room → ReadArray file 0 1 room r left
       → (r ≡ Length (length pixels)) × (left ≡ pixels ++ drop (length pixels) room)
-  pixels-read h c = with-room (writer.delivers f title pixels fits written octets) h c
+  pixels-read octets h c = with-room (writer.delivers f title pixels fits written octets) h c
 
   -- `read_pixel` gives the value of the pixel's bytes, at every index.
-  pub pixel-reads : {i1 i2 i3 : ℕ} {r : Sampled} → Inside (frameDims f) i1 i2 i3 → ReadPixel file 0 i1 i2 i3 r
+  pub pixel-reads : {i1 i2 i3 : ℕ} {r : Sampled} → Octets pixels → Inside (frameDims f) i1 i2 i3 → ReadPixel file 0 i1 i2 i3 r
       → let bytes = pixel f pixels (positionIn (frameDims f) i1 i2 i3) in
       r ≡ sampled.Value (pixelOf (frameType f .class) (frameType f .width) (numberOf 1 bytes))
-  pixel-reads {i1} {i2} {i3} {r} h c = sampled-by r (c .answers ∙ writer.samples f title pixels fits written octets i1 i2 i3 h)
+  pixel-reads {i1} {i2} {i3} {r} octets h c = sampled-by r (c .answers ∙ writer.samples f title pixels fits written octets i1 i2 i3 h)
 
 -- ---- Text in value form reads back
 
 pub text-back : (text : List ℕ) {before after : List ℕ} {n : ℕ} → Escape text before (Length n) after
     → {room left : List ℕ} {r : Written} → length text ≤ length room → Unescape (take n after) room r left
     → (r ≡ Length (length text)) × (left ≡ text ++ drop (length text) room)
-text-back text c h d = with-room (unescaped-back text (wrote _ c .0)) h d
+text-back text c h d = with-room (unescaped-back text (wrote (escaped text) c .bytes)) h d
 
 -- ---- One pixel and the array are one thing seen twice, in any file
 
@@ -100,8 +103,8 @@ text-back text c h d = with-room (unescaped-back text (wrote _ c .0)) h d
 module _ (s : List ℕ) (block order : ℕ) (d : Description) (before after : List ℕ) (n : ℕ)
     (describe : Describe s block (described.Array d)) (read : ReadArray s block order before (Length n) after) where
   -- The bytes delivered are as many as the description says,
-  pub array-length : length (take n after) ≡ product (arrayDims d) * arrayType d .width
-  array-length = array.length-of-array s block order _ (take n after) (has-array s block d (sym (describe .answers)) .1) (wrote _ read .0)
+  pub array-length : n ≡ product (arrayDims d) * arrayType d .width
+  array-length = delivered-length s block order describe read
 
   -- and `read_pixel` gives the value of those at its index.
   pub pixel-of-array : {i1 i2 i3 : ℕ} {r : Sampled} → Octets s → i1 < d .dim1 → i2 < d .dim2 → i3 < d .dim3 → ReadPixel s block i1 i2 i3 r
@@ -109,8 +112,7 @@ module _ (s : List ℕ) (block order : ℕ) (d : Description) (before after : Li
       let bytes = take w (drop (w * (i1 + d .dim1 * (i2 + d .dim2 * i3))) (take n after)) in
       r ≡ sampled.Value (pixelOf (arrayType d .class) w (numberOf order bytes))
   pixel-of-array {i1} {i2} {i3} {r} octets h1 h2 h3 c =
-      sampled-by r (c .answers ∙ array.pixel-of-array s block order _ (take n after) (has-array s block d (sym (describe .answers)) .1) (wrote _ read .0)
-      octets i1 i2 i3 (index-test d i1 i2 i3 h1 h2 h3))
+      sampled-by r (c .answers ∙ delivered-pixel s block order describe read octets i1 i2 i3 h1 h2 h3)
 
 -- ---- A call has one answer
 
