@@ -1,0 +1,86 @@
+// The public calls for C and for other languages: numbers and slices only. A slice is a pointer and a length. Each call answers a
+// code, 0 for success or the number of the error in document 01's table; the value and the position go into numbers that the caller
+// lends. In an error the value's room and every lent buffer hold what they held; in success the position's room does.
+use text::Written;
+use writer::Frame;
+ghost use mathlib.Core.Path.{_≡_};
+ghost use Rattle.scan.specs.Buffer.{lengthWritten, bufferAfter};
+ghost use Rattle.array.specs.Delivery.{arrayIn};
+ghost use Rattle.writer.specs.File.{writtenFile};
+ghost use Rattle.edf_c.specs.Answers.{codeOf, valueAfter, positionAfter};
+ghost use Rattle.edf_c.specs.Frames.{frameOf};
+
+// The array of a block in a byte order, at the front of the lent buffer: `edf::read_array`.
+#[no_mangle]
+pub extern "C" fn edf_read_array(
+    file: &[u8],
+    block: usize,
+    order: u8,
+    out: &mut [u8],
+    length: &mut usize,
+    position: &mut usize,
+) -> u8
+    ensures { λ r. ⌜ r ≡ codeOf (lengthWritten (arrayIn (now (file .entry)) block order) (now (out .entry))) ⌝ }
+    ensures { λ _. ⌜ now (length .exit) ≡ valueAfter (lengthWritten (arrayIn (now (file .entry)) block order) (now (out .entry))) (now (length .entry)) ⌝ }
+    ensures { λ _. ⌜ now (position .exit) ≡ positionAfter (lengthWritten (arrayIn (now (file .entry)) block order) (now (out .entry))) (now (position .entry)) ⌝ }
+    ensures { λ _. ⌜ now (out .exit) ≡ bufferAfter (arrayIn (now (file .entry)) block order) (now (out .entry)) ⌝ }
+{
+    match edf::read_array(file, block, order, out) {
+        Written::Length(n) => {
+            *length = n;
+            0
+        }
+        Written::Failed(e) => {
+            *position = e.position;
+            e.code
+        }
+    }
+}
+
+// A file of one block, at the front of the lent buffer: `edf::write` of the frame with these fields.
+#[no_mangle]
+pub extern "C" fn edf_write(
+    sequence: i64,
+    instance: u8,
+    memory: i64,
+    datatype: u8,
+    byteorder: u8,
+    n: u8,
+    dim1: usize,
+    dim2: usize,
+    dim3: usize,
+    configuration: u32,
+    title: &[u8],
+    pixels: &[u8],
+    out: &mut [u8],
+    length: &mut usize,
+    position: &mut usize,
+) -> u8
+    ensures { λ r. ⌜ r ≡ codeOf (lengthWritten (writtenFile (frameOf sequence instance memory datatype byteorder n dim1 dim2 dim3 configuration) (now (title .entry)) (now (pixels .entry))) (now (out .entry))) ⌝ }
+    ensures { λ _. ⌜ now (length .exit) ≡ valueAfter (lengthWritten (writtenFile (frameOf sequence instance memory datatype byteorder n dim1 dim2 dim3 configuration) (now (title .entry)) (now (pixels .entry))) (now (out .entry))) (now (length .entry)) ⌝ }
+    ensures { λ _. ⌜ now (position .exit) ≡ positionAfter (lengthWritten (writtenFile (frameOf sequence instance memory datatype byteorder n dim1 dim2 dim3 configuration) (now (title .entry)) (now (pixels .entry))) (now (out .entry))) (now (position .entry)) ⌝ }
+    ensures { λ _. ⌜ now (out .exit) ≡ bufferAfter (writtenFile (frameOf sequence instance memory datatype byteorder n dim1 dim2 dim3 configuration) (now (title .entry)) (now (pixels .entry))) (now (out .entry)) ⌝ }
+{
+    let frame = Frame {
+        sequence: sequence,
+        instance: instance,
+        memory: memory,
+        datatype: datatype,
+        byteorder: byteorder,
+        n: n,
+        dim1: dim1,
+        dim2: dim2,
+        dim3: dim3,
+        configuration: configuration,
+    };
+    match edf::write(frame, title, pixels, out) {
+        Written::Length(k) => {
+            *length = k;
+            0
+        }
+        Written::Failed(e) => {
+            *position = e.position;
+            e.code
+        }
+    }
+}
