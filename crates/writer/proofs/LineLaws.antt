@@ -15,8 +15,8 @@ use Rattle.blocks.specs.IdentityText.{isOne, instanceWord, memoryText, identity
 use Rattle.raster.specs.Types.{types, typeOf, orderWords}
 use Rattle.writer.specs.File.{dimKeywords}
 use Rattle.writer.specs.Front.{keyword}
-use Rattle.writer.specs.Render.{Keyword, line, lines}
-use Rattle.writer.proofs.Codes.{allBelow, below}
+use Rattle.writer.specs.Render.{line, lines}
+use Rattle.writer.proofs.Codes.{below}
 
 module _ (k v : List ℕ) where
   pub line-is : ((k ++ ascii " = ") ++ v) ++ ascii " ;\r\n" ≡ line (keyword k v)

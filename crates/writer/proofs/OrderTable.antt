@@ -1,9 +1,9 @@
 -- The axes of every configuration for three indices: a table of them, and that they are an order of the indices. By one computed
 -- test each.
-use mathlib.Core.Path.{_≡_, refl, sym, ap, subst, _∙_}
+use mathlib.Core.Path.{_≡_, refl, ap, subst}
 use mathlib.Core.Bool.{Bool, true, false, _&&_, _||_, false≢true}
 use mathlib.Core.List.{List, [], _∷_}
-use Prim.Native.Nat.{ℕ, zero, suc, _+_, _-_, _*_, _/_, _%_, _≤_, _<_}
+use Prim.Native.Nat.{ℕ, suc, _+_, _-_, _*_, _/_, _%_, _≤_, _<_}
 use native.Mathlib.Omega.{arith}
 use borrow.Author.Tests.{eqb-true, leb-true}
 use lib.Dec.{eqb, leb}
@@ -11,7 +11,7 @@ use lib.ListN.{length, getD}
 use Rattle.raster.specs.Axis.{Axis, forward, backward, configurations, insertWithAfter, orderFrom, orderOf}
 use Rattle.raster.specs.Position.{indexOf}
 use Rattle.writer.specs.Stored.{axisOf, axisAt}
-use Rattle.writer.proofs.Codes.{allBelow, below, and-both}
+use Rattle.writer.proofs.Codes.{below, and-both}
 
 abbrev sameAxis : Axis → Axis → Bool
 sameAxis (forward a) (forward b) = eqb a b

@@ -1,24 +1,22 @@
 -- Sizes of arrays that fit, and the axes that the code walks along.
-use mathlib.Core.Path.{_≡_, refl, sym, ap, subst, _∙_}
+use mathlib.Core.Path.{_≡_, refl, sym, ap, subst}
 use mathlib.Core.Bool.{true}
 use mathlib.Core.List.{List, [], _∷_}
 use Prim.Native.Nat.{ℕ, zero, suc, _+_, _-_, _*_, _≤_, _<_}
 use native.Mathlib.Nat.{zero-mul, mul-one, mul-comm, mul-le-mul-left, mul-le-mul-right}
 use native.Mathlib.Omega.{arith}
 use borrow.Author.Tests.{le-leb, lt-leb}
-use lib.ListN.{take, getD}
 use Rattle.scan.proofs.Decides.{decided}
 use Rattle.text.proofs.Everys.{Each}
 use Rattle.text.proofs.Parts.{each-head, each-tail}
-use Rattle.raster.specs.Axis.{Axis, forward, backward}
-use Rattle.raster.specs.Position.{product, indexOf, dimOf}
-use Rattle.raster.specs.declared.stride.Steps.{Steps}
-use Rattle.writer.specs.File.{frameDims, frameAllowed}
+use Rattle.raster.specs.Axis.{Axis, forward}
+use Rattle.raster.specs.Position.{product, dimOf}
+use Rattle.writer.specs.File.{frameAllowed}
 use Rattle.writer.specs.Stored.{shapeDims, Small, IsShape, axisOf, axisAt, strideOf, upOf, downOf, backOf, stepsAlong, storedSteps}
 use Rattle.writer.specs.declared.Frame.{Frame}
 use Rattle.writer.specs.declared.dims.Shape.{Shape}
 use Rattle.writer.proofs.Allowed.{Within, Allowed, allowed-decides}
-use Rattle.writer.proofs.OrderTable.{Permutes, order-permutes}
+use Rattle.writer.proofs.OrderTable.{order-permutes}
 use Rattle.writer.proofs.Walks.{runs, ends-inside, some-dims}
 
 mul-most : (a b x y : ℕ) → a ≤ x → b ≤ y → a * b ≤ x * y

@@ -2,7 +2,7 @@
 use mathlib.Core.Path.{_≡_, refl, sym, ap, subst, _∙_}
 use mathlib.Core.List.{List, [], _∷_, _++_}
 use Prim.Native.Nat.{ℕ, zero, suc, _+_, _-_, _*_, _^_, _≤_, _<_}
-use native.Mathlib.Nat.{add-zero, zero-add, mul-zero, mul-one, mul-comm, mul-assoc, mul-suc, suc-mul, mul-le-mul-left, mul-le-mul-right}
+use native.Mathlib.Nat.{add-zero, mul-zero, mul-one, mul-comm, mul-assoc, suc-mul, mul-le-mul-left, mul-le-mul-right}
 use native.Mathlib.Omega.{arith}
 use lib.IntN.{pos}
 use lib.ListN.{length, take, drop, getD, replicate, length-append, length-take, length-drop, length-replicate}
@@ -22,10 +22,10 @@ use Rattle.raster.proofs.RoundTrip.{number-bound, offset-zero}
 use Rattle.raster.proofs.Stored.{octets-part}
 use Rattle.writer.specs.File.{frameDims, frameType, pixelBytes, storedPixels, fileData}
 use Rattle.writer.specs.Render.{padding, filled}
-use Rattle.writer.specs.Stored.{axisAt, strideOf, stepsAlong, storedSteps, shapeDims, Small, IsShape}
+use Rattle.writer.specs.Stored.{axisAt, stepsAlong, storedSteps, shapeDims, IsShape}
 use Rattle.writer.specs.declared.Frame.{Frame}
 use Rattle.writer.specs.declared.dims.Shape.{Shape}
-use Rattle.writer.proofs.Allowed.{Within, Allowed}
+use Rattle.writer.proofs.Allowed.{Allowed}
 use Rattle.writer.proofs.Codes.{type-wide}
 use Rattle.writer.proofs.Described.{few-configurations, stored-length}
 use Rattle.writer.proofs.OrderTable.{order-axes, order-permutes}

@@ -2,12 +2,12 @@
 use mathlib.Core.Path.{_≡_, refl, sym, ap, _∙_}
 use mathlib.Core.List.{List, [], _∷_}
 use Prim.Native.Nat.{ℕ, _+_, _-_, _*_, _≤_, _<_}
-use native.Mathlib.Nat.{add-zero, zero-add, mul-zero, zero-mul, mul-one, one-mul, mul-add, mul-assoc, mul-comm, mul-suc, mul-le-mul-left}
+use native.Mathlib.Nat.{zero-mul, mul-one, one-mul, mul-add, mul-assoc, mul-comm, mul-suc, mul-le-mul-left}
 use native.Mathlib.Omega.{arith}
-use lib.ListN.{length, take, getD}
+use lib.ListN.{take, getD}
 use Rattle.raster.specs.Axis.{Axis, forward, backward}
 use Rattle.raster.specs.Position.{product, indexOf, dimOf, along}
-use Rattle.raster.specs.Strided.{place, placeOf, Stands, Inside3}
+use Rattle.raster.specs.Strided.{placeOf, Inside3}
 use Rattle.writer.specs.Stored.{strideOf, upOf, downOf, backOf, stepsAlong}
 use Rattle.writer.proofs.OrderTable.{Permutes, p123, p132, p213, p231, p312, p321}
 

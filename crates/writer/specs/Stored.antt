@@ -4,7 +4,7 @@ use mathlib.Core.Bool.{cond}
 use mathlib.Core.List.{List, [], _∷_}
 use Prim.Native.Nat.{ℕ, _+_, _-_, _*_, _≤_, _<_}
 use lib.Dec.{leb}
-use lib.ListN.{length, take, getD}
+use lib.ListN.{take, getD}
 use Rattle.raster.specs.Axis.{Axis, forward, backward, orderOf}
 use Rattle.raster.specs.Position.{product, indexOf, dimOf}
 use Rattle.raster.specs.declared.stride.Steps.{Steps}

@@ -2,7 +2,7 @@
 use crate::Frame;
 ghost use mathlib.Core.Path.{_≡_};
 ghost use mathlib.Core.Bool.{true};
-ghost use Prim.Native.Nat.{_+_, _*_, _≤_};
+ghost use Prim.Native.Nat.{_*_, _≤_};
 ghost use Rattle.raster.specs.Position.{product};
 ghost use Rattle.writer.specs.File.{frameAllowed};
 ghost use Rattle.writer.specs.Render.{padding};

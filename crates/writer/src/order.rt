@@ -2,9 +2,9 @@
 use crate::dims::Shape;
 use raster::stride::Steps;
 ghost use mathlib.Core.Path.{_≡_};
-ghost use Prim.Native.Nat.{_+_, _*_, _≤_, _<_, _^_};
-ghost use Rattle.raster.specs.Axis.{forward, backward};
-ghost use Rattle.raster.specs.Position.{product, dimOf};
+ghost use Prim.Native.Nat.{_+_, _*_, _≤_, _<_};
+ghost use Rattle.raster.specs.Axis.{forward};
+ghost use Rattle.raster.specs.Position.{dimOf};
 ghost use Rattle.writer.specs.Stored.{shapeDims, Small, axisOf, axisAt, strideOf, upOf, downOf, backOf, storedSteps};
 
 // By the number of a configuration for three indices, less 1: its indices from fast to slow. n + 3 stands for index n backward.

@@ -2,10 +2,8 @@
 use borrow.Author.Needs.{needs}
 use Rattle.writer.proofs.Appending.{appended-then, appended-is, appended-length}
 use Rattle.writer.proofs.Sizes.{allowed}
-use mathlib.Core.Path.{ap}
 use native.Mathlib.Omega.{arith}
 use Prim.Native.Nat.{_-_}
-use lib.ListN.{length}
 use Rattle.delivery.proofs.Planes.{octets-all}
 use Rattle.writer.proofs.StoredOrder.{stored-whole, data-is, data-length}
 use Rattle.writer.proofs.data.put_data.Statement.{statement}

@@ -1,11 +1,10 @@
 -- `writer::file::arguments_allowed` meets its contract.
 use borrow.Author.Needs.{needs}
 use Rattle.writer.proofs.FileLaws.{first-refused, second-refused, third-decides, shape-total}
-use mathlib.Core.Path.{sym, ap, _∙_}
+use mathlib.Core.Path.{sym, _∙_}
 use native.Mathlib.Omega.{arith}
 use Prim.Native.Nat.{_*_}
 use borrow.Author.Tests.{eq-eqb, ne-eqb}
-use lib.ListN.{length, take}
 use Rattle.text.proofs.Escaping.{flipped}
 use Rattle.writer.proofs.Sizes.{allowed}
 use Rattle.writer.proofs.Codes.{type-narrow}

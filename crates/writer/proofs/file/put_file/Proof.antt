@@ -1,11 +1,10 @@
 -- `writer::file::put_file` meets its contract.
 use borrow.Author.Needs.{needs}
 use Rattle.writer.proofs.Appending.{appended-then, appended-length, appended-front, next-length}
-use mathlib.Core.Path.{ap}
 use native.Mathlib.Omega.{arith}
-use lib.ListN.{length, length-append}
+use lib.ListN.{length-append}
 use Rattle.writer.specs.File.{fileData}
-use Rattle.writer.specs.Front.{front, titled, closed}
+use Rattle.writer.specs.Front.{titled, closed}
 use Rattle.writer.proofs.file.put_file.Statement.{statement}
 use Rattle.writer.proofs.file.put_file.Tie as tie
 

@@ -7,7 +7,7 @@ use native.Mathlib.Omega.{arith}
 use Prim.Native.Nat.{ℕ, _+_, _*_}
 use mathlib.Core.List.{List, _++_}
 use borrow.Author.Tests.{eqb-true}
-use lib.ListN.{length, take}
+use lib.ListN.{length}
 use Rattle.scan.specs.Buffer.{over}
 use Rattle.text.proofs.Buffers.{fits, short, of-equal, refuses}
 use Rattle.text.proofs.Escaping.{flipped}
@@ -15,7 +15,6 @@ use Rattle.delivery.proofs.Planes.{octets-all}
 use Rattle.raster.specs.Types.{typeOf}
 use Rattle.writer.specs.File.{fileData}
 use Rattle.writer.specs.Front.{front, titled, closed}
-use Rattle.writer.specs.Render.{padding}
 use Rattle.writer.proofs.Sizes.{allowed}
 use Rattle.writer.proofs.Keywords.{padding-small}
 use Rattle.writer.proofs.StoredOrder.{data-length}

@@ -2,10 +2,8 @@
 use borrow.Author.Needs.{needs}
 use Rattle.writer.proofs.Appending.{appended-then, appended-is}
 use Rattle.writer.proofs.HeaderLaws.{front-is}
-use mathlib.Core.Path.{ap}
 use native.Mathlib.Omega.{arith}
 use Prim.Native.Nat.{_-_}
-use lib.ListN.{length}
 use Rattle.writer.proofs.heading.put_front.Statement.{statement}
 use Rattle.writer.proofs.heading.put_front.Tie as tie
 

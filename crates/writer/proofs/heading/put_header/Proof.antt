@@ -5,7 +5,7 @@ use Rattle.writer.proofs.HeaderLaws.{titled-is, titled-length, closed-i
 use mathlib.Core.Path.{ap, _∙_}
 use native.Mathlib.Omega.{arith}
 use Prim.Native.Nat.{ℕ, _+_, _-_}
-use lib.ListN.{length, length-replicate}
+use lib.ListN.{length-replicate}
 use Rattle.writer.specs.Render.{padding}
 use Rattle.writer.specs.Front.{titled}
 use Rattle.writer.proofs.heading.put_header.Statement.{statement}

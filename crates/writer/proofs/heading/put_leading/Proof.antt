@@ -3,10 +3,8 @@ use borrow.Author.Needs.{needs}
 use Rattle.writer.proofs.Appending.{appended-then, appended-is, appended-length}
 use Rattle.writer.proofs.HeaderLaws.{leading-is}
 use Rattle.writer.proofs.Sizes.{allowed}
-use mathlib.Core.Path.{ap}
 use native.Mathlib.Omega.{arith}
 use Prim.Native.Nat.{_-_}
-use lib.ListN.{length}
 use mir.Syntax.{w64}
 use mir.ValLaws.{toZ-ofZ}
 use Rattle.writer.proofs.Described.{few-configurations}

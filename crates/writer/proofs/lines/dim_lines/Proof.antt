@@ -1,10 +1,8 @@
 -- `writer::lines::dim_lines` meets its contract.
 use borrow.Author.Needs.{needs}
 use Rattle.writer.proofs.Appending.{appended-then, appended-is}
-use mathlib.Core.Path.{ap}
 use native.Mathlib.Omega.{arith}
 use Rattle.writer.proofs.LineLaws.{dims-one-line, dims-two-lines, dims-three-lines}
-use Rattle.writer.specs.Render.{line}
 use Rattle.writer.proofs.lines.dim_lines.Statement.{statement}
 use Rattle.writer.proofs.lines.dim_lines.Tie as tie
 

@@ -2,7 +2,6 @@
 use borrow.Author.Needs.{needs}
 use Rattle.writer.proofs.Appending.{appended-then, appended-is}
 use Rattle.writer.proofs.LineLaws.{line-is, line-length}
-use mathlib.Core.Path.{ap}
 use native.Mathlib.Omega.{arith}
 use Rattle.writer.proofs.lines.put_line.Statement.{statement}
 use Rattle.writer.proofs.lines.put_line.Tie as tie
