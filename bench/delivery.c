@@ -89,9 +89,30 @@ static void measure(int type, int low_first, int asked_low, int n, size_t d1, si
     fflush(stdout);
 }
 
+// Writing the pixels of a frame of UnsignedShort, beside reading the same array from the file written.
+static void measure_writing(uint8_t low_first, uint32_t configuration) {
+    size_t d1 = 2048, d2 = 2048, size = d1 * d2 * 2, length = 0, position = 0;
+    double best[2] = {1e9, 1e9};
+    for (int turn = 0; turn < TURNS; turn++) {
+        double t0 = now();
+        uint8_t code = edf_write(1, 1, 1, 3, low_first ? 2 : 1, 2, d1, d2, 0, configuration, (const uint8_t *)"x;", 2, expected, size, file, size + 4096, &length, &position);
+        double t1 = now();
+        size_t read = 0;
+        uint8_t again = edf_read_array(file, length, 0, 1, out, size, &read, &position);
+        double t2 = now();
+        if (code != 0 || again != 0 || read != size || memcmp(out, expected, size) != 0) {
+            printf("wrong: written and read, configuration %u: codes %d %d\n", configuration, code, again);
+            exit(1);
+        }
+        if (t1 - t0 < best[0]) best[0] = t1 - t0;
+        if (t2 - t1 < best[1]) best[1] = t2 - t1;
+    }
+    printf("| %s | %u | %.2f | %.2f | %.2f |\n", low_first ? "low byte first" : "high byte first", configuration, best[0], best[1], best[0] / best[1]);
+}
+
 int main(void) {
     size_t most = 64u << 20;
-    file = malloc(most + 512), out = malloc(most), expected = malloc(most);
+    file = malloc(most + 4096), out = malloc(most), expected = malloc(most);
     for (size_t i = 0; i < most + 512; i++) file[i] = (uint8_t)(i * 2654435761u >> 13);
     memset(out, 1, most), memset(expected, 1, most);
     printf("| type | bytes | N | configuration | offset | memcpy ms | plain C ms | edf ms | edf / memcpy | edf / C |\n");
@@ -109,5 +130,9 @@ int main(void) {
     measure(5, 1, 0, 2, 2048, 2048, 1, 1, -10);
     int cubes[] = {1, 17, 33, 48};
     for (int i = 0; i < 4; i++) measure(1, 0, 0, 3, 256, 256, 64, cubes[i], 0);
+    printf("\n| writing 2048 by 2048 UnsignedShort | configuration | write ms | read_array ms | write / read |\n|---|---|---|---|---|\n");
+    for (size_t i = 0; i < most; i++) expected[i] = (uint8_t)(i * 2654435761u >> 11);
+    for (int low = 0; low < 2; low++)
+        for (uint32_t c = 1; c <= 8; c++) measure_writing(low, c);
     return 0;
 }
