@@ -1,5 +1,6 @@
 -- The main theorems about the public calls. `Write`, `Open` and the others of specs/Calls are the contracts of the calls of these
--- names, so `Open file before r after` is any call of `open` on `file`, whose table held `before`, that answers r and leaves `after`.
+-- names (Contracts, beside this file), so `Open file before r after` is any call of `open` on `file`, whose table held `before`, that
+-- answers r and leaves `after`.
 use mathlib.Core.Path.{_≡_, sym, _∙_}
 use mathlib.Core.List.{List, [], _∷_, _++_}
 use Prim.Native.Nat.{ℕ, _+_, _*_, _≤_, _<_}
