@@ -5,10 +5,13 @@ use mathlib.Core.List.{List, _++_}
 use Prim.Native.Nat.{ℕ, _+_, _*_, _≤_, _<_}
 use borrow.Author.Tests.{le-leb, lt-leb, lt-ltb}
 use lib.Dec.{leb}
+use lib.IntN.{ℤ}
 use lib.ListN.{length, take, drop}
 use lib.Seq.{take-at, drop-at}
 use Rattle.scan.specs.Buffer.{lengthWritten, bufferAfter}
 use Rattle.scan.specs.Outcome.{Outcome, ok, failed, require, _>>_}
+use Rattle.scan.specs.declared.Error.{Error}
+use Rattle.scan.specs.declared.Span.{Span}
 use Rattle.scan.proofs.Cases.{by-test, by-order, ok-failed}
 use Rattle.text.specs.Answers.{writtenOutcome}
 use Rattle.text.specs.Text.{every, textByte, valueByte, shortText, quotedText, escaped, unescaped}
@@ -19,10 +22,16 @@ use Rattle.text.proofs.Quoted.{quoted-bytes}
 use Rattle.text.proofs.RoundTrip.{text-back}
 use Rattle.blocks.specs.Answers.{openedOutcome}
 use Rattle.blocks.specs.Grammar.{Partition}
+use Rattle.blocks.specs.Opening.{openedFile, openedInto}
 use Rattle.blocks.specs.declared.Opened.{Opened}
 use Rattle.blocks.specs.declared.Opened.the-variants as opened
 use Rattle.blocks.specs.declared.Row.{Row}
-use Rattle.keyword.specs.Keyword.{viewOf}
+use Rattle.keyword.specs.Answers.{locatedOutcome, numberOutcome}
+use Rattle.keyword.specs.Keyword.{viewOf, entryOf, found, wholeNumberOf, textIn}
+use Rattle.keyword.specs.declared.Located.{Located}
+use Rattle.keyword.specs.declared.Located.the-variants as located
+use Rattle.keyword.specs.declared.Number.{Number}
+use Rattle.keyword.specs.declared.Number.the-variants as number
 use Rattle.array.specs.Answers.{describedOutcome, sampledOutcome}
 use Rattle.array.specs.Delivery.{arrayType, arrayDims, dataOf, arrayOf, arrayIn, isIndex, pixelIn}
 use Rattle.array.specs.Describe.{descriptionIn, descriptionOf}
@@ -33,7 +42,7 @@ use Rattle.array.specs.declared.Sampled.{Sampled}
 use Rattle.array.specs.declared.Sampled.the-variants as sampled
 use Rattle.array.proofs.DescribedLaws.{step-ok, check-ok, same-ok}
 use Rattle.array.proofs.Main.{length-of-array, pixel-of-array}
-use Rattle.array.proofs.ReadLaws.{array-is}
+use Rattle.array.proofs.ReadLaws.{array-is, no-block, no-array, no-pixel}
 use Rattle.raster.specs.Bytes.{numberOf}
 use Rattle.raster.specs.Pixels.{pixelOf}
 use Rattle.raster.specs.Position.{product}
@@ -42,7 +51,7 @@ use Rattle.raster.specs.declared.Pixel.{Pixel}
 use Rattle.writer.specs.declared.Frame.{Frame}
 use Rattle.writer.proofs.Allowed as writer
 use Rattle.edf.specs.Calls.{IntoBuffer, Open, Describe, ReadArray}
-use Rattle.edf.proofs.OpeningLaws.{opens-as}
+use Rattle.edf.proofs.OpeningLaws.{opens-as, counts-failed}
 
 -- ---- The answer by its outcome
 
@@ -61,6 +70,22 @@ openedBy (failed e) = opened.Failed e
 pub opened-by : (r : Opened) {o : Outcome ℕ} → openedOutcome r ≡ o → r ≡ openedBy o
 opened-by (opened.Blocks n) e = ap openedBy e
 opened-by (opened.Failed x) e = ap openedBy e
+
+abbrev pub locatedBy : Outcome Span → Located
+locatedBy (ok p) = located.At p
+locatedBy (failed e) = located.Failed e
+
+pub located-by : (r : Located) {o : Outcome Span} → locatedOutcome r ≡ o → r ≡ locatedBy o
+located-by (located.At p) e = ap locatedBy e
+located-by (located.Failed x) e = ap locatedBy e
+
+abbrev pub numberBy : Outcome ℤ → Number
+numberBy (ok z) = number.Value z
+numberBy (failed e) = number.Failed e
+
+pub number-by : (r : Number) {o : Outcome ℤ} → numberOutcome r ≡ o → r ≡ numberBy o
+number-by (number.Value z) e = ap numberBy e
+number-by (number.Failed x) e = ap numberBy e
 
 abbrev pub describedBy : Outcome Description → Described
 describedBy (ok d) = described.Array d
@@ -122,6 +147,27 @@ wrote (ok w) {before} {after} {n} c =
       rest = ap (drop n) left ∙ drop-at w (drop (length w) before) n long ∙ ap (λ (k : ℕ). drop k before) long;
     })
     (λ h. absurd (no-room w before h (sym (c .answers))))
+
+buffer-short : (w before : List ℕ) → length before < length w → bufferAfter (ok w) before ≡ before
+unfolding bufferAfter
+buffer-short w before h = rw (lt-leb (length w) (length before) h)
+
+-- In an error the buffer is as it was.
+pub kept : (o : Outcome (List ℕ)) {before after : List ℕ} {x : Error} → IntoBuffer o before (written.Failed x) after → after ≡ before
+unfolding bufferAfter
+kept (failed y) c = c .leaves
+kept (ok w) {before} c =
+    by-order (length w) (length before) (λ h. absurd (ok-failed (sym (c .answers ∙ length-fits w before h))))
+    (λ h. c .leaves ∙ buffer-short w before h)
+
+-- An error of what is to be written is the answer.
+pub refused-by : {o : Outcome (List ℕ)} {x : Error} → o ≡ failed x → {before after : List ℕ} {r : Written} → IntoBuffer o before r after
+    → (r ≡ written.Failed x) × (after ≡ before)
+unfolding lengthWritten bufferAfter
+refused-by {o} {x} e {before} {r = r} c = (
+  written-by r (c .answers ∙ ap (λ (p : Outcome (List ℕ)). lengthWritten p before) e),
+  c .leaves ∙ ap (λ (p : Outcome (List ℕ)). bufferAfter p before) e,
+)
 
 -- Two calls on the same give the same.
 pub same-written : {o : Outcome (List ℕ)} {before : List ℕ} {r q : Written} {after left : List ℕ}
@@ -193,3 +239,46 @@ opens-rows {s} c small {table} {left} {r} h o =
 -- A written file is within the limit.
 pub file-small : {f : Frame} {title pixels s : List ℕ} → writer.Writes f title pixels s → length s ≤ 1073741824
 file-small w = rw (w .is) (w .small)
+
+-- ---- A file that does not open
+
+into-file : (s : List ℕ) (n : ℕ) → 256 ≤ n → openedInto n s ≡ openedFile s
+unfolding openedInto openedFile
+into-file s n h = rw (le-leb 256 n h)
+
+-- The error of `open` with a table of enough rows is that of opening the file anew.
+open-refused : {s : List ℕ} {table left : List Row} {x : Error} → 256 ≤ length table → Open s table (opened.Failed x) left
+    → openedFile s ≡ failed x
+open-refused {s} {table} h c = sym (into-file s (length table) h) ∙ counts-failed (openedInto (length table) s) (sym (c .answers))
+
+module _ {s : List ℕ} {table left : List Row} {x : Error} (rows : 256 ≤ length table) (refuses : Open s table (opened.Failed x) left)
+    (block : ℕ) where
+  no-view : viewOf s block ≡ failed x
+  unfolding viewOf
+  no-view = rw (open-refused rows refuses)
+
+  no-entry : (key : List ℕ) → entryOf s block key ≡ failed x
+  unfolding entryOf
+  no-entry key = rw no-view
+
+  pub not-found : (key : List ℕ) → found s block key ≡ failed x
+  unfolding found
+  not-found key = rw (no-entry key)
+
+  pub no-number : (key : List ℕ) → wholeNumberOf s block key ≡ failed x
+  unfolding wholeNumberOf
+  no-number key = rw (no-entry key)
+
+  pub no-text : (key : List ℕ) → textIn s block key ≡ failed x
+  unfolding textIn
+  no-text key = rw (no-entry key)
+
+  pub no-description : descriptionOf s block ≡ failed x
+  unfolding descriptionOf
+  no-description = rw no-view
+
+  pub array-refused : (order : ℕ) → arrayIn s block order ≡ failed x
+  array-refused order = sym (no-array s block (no-block s block (sym no-view)) order)
+
+  pub pixel-refused : (i1 i2 i3 : ℕ) → pixelIn s block i1 i2 i3 ≡ failed x
+  pixel-refused i1 i2 i3 = sym (no-pixel s block (no-block s block (sym no-view)) i1 i2 i3)

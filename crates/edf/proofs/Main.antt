@@ -1,19 +1,24 @@
 -- The main theorems about the public calls. `Write`, `Open` and the others of specs/Calls are the contracts of the calls of these
 -- names (Contracts, beside this file), so `Open file before r after` is any call of `open` on `file`, whose table held `before`, that
 -- answers r and leaves `after`.
-use mathlib.Core.Path.{_≡_, sym, _∙_}
+use mathlib.Core.Path.{_≡_, refl, sym, _∙_}
 use mathlib.Core.List.{List, [], _∷_, _++_}
 use Prim.Native.Nat.{ℕ, _+_, _*_, _≤_, _<_}
 use lib.ListN.{length, take, drop}
 use Rattle.scan.specs.Byte.{ascii}
 use Rattle.scan.specs.Outcome.{Outcome, ok}
+use Rattle.scan.specs.declared.Error.{Error}
 use Rattle.text.specs.Text.{escaped}
 use Rattle.text.specs.declared.Written.{Written}
-use Rattle.text.specs.declared.Written.the-variants.{Length}
+use Rattle.text.specs.declared.Written.the-variants.{Length, Failed}
 use Rattle.blocks.specs.Grammar.{Partition}
 use Rattle.blocks.specs.declared.Opened.{Opened}
-use Rattle.blocks.specs.declared.Opened.the-variants.{Blocks}
+use Rattle.blocks.specs.declared.Opened.the-variants as opened
 use Rattle.blocks.specs.declared.Row.{Row}
+use Rattle.keyword.specs.declared.Located.{Located}
+use Rattle.keyword.specs.declared.Located.the-variants as located
+use Rattle.keyword.specs.declared.Number.{Number}
+use Rattle.keyword.specs.declared.Number.the-variants as number
 use Rattle.raster.specs.Bytes.{numberOf}
 use Rattle.raster.specs.Pixels.{pixelOf}
 use Rattle.raster.specs.Position.{product}
@@ -31,8 +36,11 @@ use Rattle.writer.proofs.Described.{descriptionFor}
 use Rattle.writer.proofs.Main as writer
 use Rattle.writer.proofs.Pixels.{Inside, positionIn, pixel}
 use Rattle.writer.proofs.Written.{Fits, rowOf}
-use Rattle.edf.specs.Calls.{IntoBuffer, Open, Text, Escape, Unescape, Describe, ReadArray, ReadPixel, Write}
-use Rattle.edf.proofs.CallLaws.{opened-by, described-by, sampled-by, with-room, wrote, same-written, unescaped-back, delivered-length, delivered-pixel, opens-rows, file-small}
+use Rattle.edf.specs.Calls.{IntoBuffer, Open, Find, WholeNumber, Text, Escape, Unescape, Describe, ReadArray, ReadPixel, Write}
+use Rattle.edf.proofs.CallLaws.{opened-by, located-by, number-by, described-by, sampled-by}
+use Rattle.edf.proofs.CallLaws.{with-room, wrote, kept, refused-by, same-written, unescaped-back, delivered-length, delivered-pixel}
+use Rattle.edf.proofs.CallLaws.{opens-rows, file-small, not-found, no-number, no-text, no-description, array-refused, pixel-refused}
+use Rattle.edf.proofs.OpeningLaws.{opens-as}
 
 -- ---- What is written reads back, for every frame, title and pixels: all types, one to three dimensions, every configuration
 
@@ -68,7 +76,7 @@ module _ (f : Frame) (title pixels before after : List ℕ) (n : ℕ) (fits : Fi
 
   -- `open` answers 1 and gives its row; all later rows of the table are as before.
   pub opens : {table left : List Row} {r : Opened} → 256 ≤ length table → Open file table r left
-      → (r ≡ Blocks 1) × (take 1 left ≡ rowOf f title pixels ∷ []) × (drop 1 left ≡ drop 1 table)
+      → (r ≡ opened.Blocks 1) × (take 1 left ≡ rowOf f title pixels ∷ []) × (drop 1 left ≡ drop 1 table)
   opens h c = opens-rows one-block (file-small allowed) h c
 
   -- `describe` gives the frame: type, byte order, dimensions and configuration; orientation 1 and offset 0.
@@ -114,6 +122,37 @@ module _ (s : List ℕ) (block order : ℕ) (d : Description) (before after : Li
       r ≡ sampled.Value (pixelOf (arrayType d .class) w (numberOf order bytes))
   pixel-of-array {i1} {i2} {i3} {r} octets h1 h2 h3 c =
       sampled-by r (c .answers ∙ delivered-pixel s block order describe read octets i1 i2 i3 h1 h2 h3)
+
+-- ---- Errors
+
+-- In an error of `text`, `escape`, `unescape`, `read_array` or `write` the lent buffer is as before; in one of `open` the table is.
+pub buffer-untouched : (o : Outcome (List ℕ)) {before after : List ℕ} {x : Error} → IntoBuffer o before (Failed x) after → after ≡ before
+buffer-untouched = kept
+
+pub table-untouched : {s : List ℕ} {before after : List Row} {x : Error} → Open s before (opened.Failed x) after → after ≡ before
+table-untouched {s} {before} {after} c = opens-as s before _ after (c .answers) (c .leaves) .untouched refl
+
+-- Where `open`, with a table of enough rows, gives an error, each call on a block of that file gives that error.
+module _ {s : List ℕ} {table left : List Row} {x : Error} (rows : 256 ≤ length table) (refuses : Open s table (opened.Failed x) left)
+    (block : ℕ) where
+  pub find-refuses : {key : List ℕ} {r : Located} → Find s block key r → r ≡ located.Failed x
+  find-refuses {key} {r} c = located-by r (c .answers ∙ not-found rows refuses block key)
+
+  pub number-refuses : {key : List ℕ} {r : Number} → WholeNumber s block key r → r ≡ number.Failed x
+  number-refuses {key} {r} c = number-by r (c .answers ∙ no-number rows refuses block key)
+
+  pub text-refuses : (key : List ℕ) {before after : List ℕ} {r : Written} → Text s block key before r after → (r ≡ Failed x) × (after ≡ before)
+  text-refuses key c = refused-by (no-text rows refuses block key) c
+
+  pub describe-refuses : {r : Described} → Describe s block r → r ≡ described.Failed x
+  describe-refuses {r} c = described-by r (c .answers ∙ no-description rows refuses block)
+
+  pub array-refuses : (order : ℕ) {before after : List ℕ} {r : Written} → ReadArray s block order before r after
+      → (r ≡ Failed x) × (after ≡ before)
+  array-refuses order c = refused-by (array-refused rows refuses block order) c
+
+  pub pixel-refuses : {i1 i2 i3 : ℕ} {r : Sampled} → ReadPixel s block i1 i2 i3 r → r ≡ sampled.Failed x
+  pixel-refuses {i1} {i2} {i3} {r} c = sampled-by r (c .answers ∙ pixel-refused rows refuses block i1 i2 i3)
 
 -- ---- A call has one answer
 

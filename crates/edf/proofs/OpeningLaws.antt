@@ -39,7 +39,7 @@ after-failed : {o : Outcome (List Row)} {e : Error} (t : List Row) → o ≡ fai
 unfolding tableAfter
 after-failed t q = rw q
 
-counts-failed : (o : Outcome (List Row)) {e : Error} → countOf o ≡ failed e → o ≡ failed e
+pub counts-failed : (o : Outcome (List Row)) {e : Error} → countOf o ≡ failed e → o ≡ failed e
 counts-failed (ok rows) q = absurd (ok-failed q)
 counts-failed (failed x) q = cc
 
