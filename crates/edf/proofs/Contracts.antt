@@ -31,8 +31,8 @@ both 𝓤 {φ} {ψ} {χ} f =
 
 module _ {M : Type 1} (𝓤 : URA M) (H : Heap 𝓤) (A : Atoms 𝓤) (mem : Memory → SProp 𝓤) (run : Routine → Fun 𝓤) where
   -- The `ensures` of a contract give a relation.
-  abbrev Gives : (T : Ended) → Clauses 𝓤 T → ((κs : Lfts (T .signature .lifetimes)) → Args (T .signature) κs → Res (T .signature) κs → AtExit T κs → Type 0)
-      → Type 1
+  abbrev Gives : (T : Ended) → Clauses 𝓤 T
+      → ((κs : Lfts (T .signature .lifetimes)) → Args (T .signature) κs → Res (T .signature) κs → AtExit T κs → Type 0) → Type 1
   Gives T c R =
       (κs : Lfts (T .signature .lifetimes)) (a : Args (T .signature) κs) (g : c κs a .ghost) (r : Res (T .signature) κs) (e : AtExit T κs)
       → ent 𝓤 (c κs a .ensures g r e) (fact 𝓤 (R κs a r e))

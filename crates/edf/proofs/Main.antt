@@ -160,6 +160,12 @@ pub one-opening : {s : List ℕ} {table : List Row} {r q : Opened} {after left :
     → (r ≡ q) × (after ≡ left)
 one-opening {r = r} {q = q} c d = (opened-by r (c .answers) ∙ sym (opened-by q (d .answers)), c .leaves ∙ sym (d .leaves))
 
+pub one-place : {s : List ℕ} {block : ℕ} {key : List ℕ} {r q : Located} → Find s block key r → Find s block key q → r ≡ q
+one-place {r = r} {q = q} c d = located-by r (c .answers) ∙ sym (located-by q (d .answers))
+
+pub one-number : {s : List ℕ} {block : ℕ} {key : List ℕ} {r q : Number} → WholeNumber s block key r → WholeNumber s block key q → r ≡ q
+one-number {r = r} {q = q} c d = number-by r (c .answers) ∙ sym (number-by q (d .answers))
+
 pub one-description : {s : List ℕ} {block : ℕ} {r q : Described} → Describe s block r → Describe s block q → r ≡ q
 one-description {r = r} {q = q} c d = described-by r (c .answers) ∙ sym (described-by q (d .answers))
 
