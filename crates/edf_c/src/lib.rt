@@ -5,6 +5,8 @@ use text::Written;
 use writer::Frame;
 ghost use mathlib.Core.Path.{_≡_};
 ghost use Rattle.scan.specs.Buffer.{lengthWritten, bufferAfter};
+ghost use Rattle.text.specs.Text.{escaped, unescaped};
+ghost use Rattle.keyword.specs.Keyword.{textIn};
 ghost use Rattle.array.specs.Delivery.{arrayIn};
 ghost use Rattle.writer.specs.File.{writtenFile};
 ghost use Rattle.edf_c.specs.Answers.{codeOf, valueAfter, positionAfter};
@@ -76,6 +78,83 @@ pub extern "C" fn edf_write(
     match edf::write(frame, title, pixels, out) {
         Written::Length(k) => {
             *length = k;
+            0
+        }
+        Written::Failed(e) => {
+            *position = e.position;
+            e.code
+        }
+    }
+}
+
+// The value of a keyword of a block as text, at the front of the lent buffer: `edf::text`.
+#[no_mangle]
+pub extern "C" fn edf_text(
+    file: &[u8],
+    block: usize,
+    key: &[u8],
+    out: &mut [u8],
+    length: &mut usize,
+    position: &mut usize,
+) -> u8
+    ensures { λ r. ⌜ r ≡ codeOf (lengthWritten (textIn (now (file .entry)) block (now (key .entry))) (now (out .entry))) ⌝ }
+    ensures { λ _. ⌜ now (length .exit) ≡ valueAfter (lengthWritten (textIn (now (file .entry)) block (now (key .entry))) (now (out .entry))) (now (length .entry)) ⌝ }
+    ensures { λ _. ⌜ now (position .exit) ≡ positionAfter (lengthWritten (textIn (now (file .entry)) block (now (key .entry))) (now (out .entry))) (now (position .entry)) ⌝ }
+    ensures { λ _. ⌜ now (out .exit) ≡ bufferAfter (textIn (now (file .entry)) block (now (key .entry))) (now (out .entry)) ⌝ }
+{
+    match edf::text(file, block, key, out) {
+        Written::Length(n) => {
+            *length = n;
+            0
+        }
+        Written::Failed(e) => {
+            *position = e.position;
+            e.code
+        }
+    }
+}
+
+// Text in value form, at the front of the lent buffer: `edf::escape`.
+#[no_mangle]
+pub extern "C" fn edf_escape(
+    bytes: &[u8],
+    out: &mut [u8],
+    length: &mut usize,
+    position: &mut usize,
+) -> u8
+    ensures { λ r. ⌜ r ≡ codeOf (lengthWritten (escaped (now (bytes .entry))) (now (out .entry))) ⌝ }
+    ensures { λ _. ⌜ now (length .exit) ≡ valueAfter (lengthWritten (escaped (now (bytes .entry))) (now (out .entry))) (now (length .entry)) ⌝ }
+    ensures { λ _. ⌜ now (position .exit) ≡ positionAfter (lengthWritten (escaped (now (bytes .entry))) (now (out .entry))) (now (position .entry)) ⌝ }
+    ensures { λ _. ⌜ now (out .exit) ≡ bufferAfter (escaped (now (bytes .entry))) (now (out .entry)) ⌝ }
+{
+    match edf::escape(bytes, out) {
+        Written::Length(n) => {
+            *length = n;
+            0
+        }
+        Written::Failed(e) => {
+            *position = e.position;
+            e.code
+        }
+    }
+}
+
+// The text of a value, at the front of the lent buffer: `edf::unescape`.
+#[no_mangle]
+pub extern "C" fn edf_unescape(
+    value: &[u8],
+    out: &mut [u8],
+    length: &mut usize,
+    position: &mut usize,
+) -> u8
+    ensures { λ r. ⌜ r ≡ codeOf (lengthWritten (unescaped (now (value .entry))) (now (out .entry))) ⌝ }
+    ensures { λ _. ⌜ now (length .exit) ≡ valueAfter (lengthWritten (unescaped (now (value .entry))) (now (out .entry))) (now (length .entry)) ⌝ }
+    ensures { λ _. ⌜ now (position .exit) ≡ positionAfter (lengthWritten (unescaped (now (value .entry))) (now (out .entry))) (now (position .entry)) ⌝ }
+    ensures { λ _. ⌜ now (out .exit) ≡ bufferAfter (unescaped (now (value .entry))) (now (out .entry)) ⌝ }
+{
+    match edf::unescape(value, out) {
+        Written::Length(n) => {
+            *length = n;
             0
         }
         Written::Failed(e) => {

@@ -1,0 +1,40 @@
+-- `edf_c::edf_unescape` meets its contract.
+use Rattle.edf_c.proofs.Answering.{writes, writes-none}
+use borrow.Author.Needs.{needs}
+use Rattle.edf_c.proofs.edf_unescape.Statement.{statement}
+use Rattle.edf_c.proofs.edf_unescape.Tie as tie
+
+unescape-requires : tie.Need-unescape-requires
+unescape-requires c κs = search needs
+
+enum-known-n : tie.Need-enum-known-n
+enum-known-n c = search needs
+
+enum-known-e : tie.Need-enum-known-e
+enum-known-e c = search needs
+
+same-length : tie.Need-same-length
+same-length c = search needs
+
+returns : tie.Need-returns
+returns c =
+    writes _ _ _ _ _ (c .before .before .before .before .before .unescape .ensures) (c .before .n .given .1)
+
+same-length-2 : tie.Need-same-length-2
+same-length-2 c = search needs
+
+returns-2 : tie.Need-returns-2
+returns-2 c =
+    writes-none _ _ _ _ _ (c .before .before .before .before .before .unescape .ensures) (c .before .e .given .1)
+
+pub edf-unescape-spec : {M : Type 1} → statement M
+edf-unescape-spec =
+    tie.close
+    (tie.spec
+    unescape-requires
+    enum-known-n
+    enum-known-e
+    same-length
+    returns
+    same-length-2
+    returns-2)
