@@ -4,11 +4,16 @@ use mathlib.Core.List.{List}
 use Prim.Native.Nat.{ℕ}
 use Rattle.scan.specs.Outcome.{Outcome, ok, failed}
 use Rattle.scan.specs.Buffer.{lengthWritten, bufferAfter}
+use Rattle.scan.specs.Byte.{partOf}
 use Rattle.scan.specs.declared.Error.{Error}
+use Rattle.scan.specs.declared.Span.{Span}
 use Rattle.text.specs.Answers.{writtenOutcome}
 use Rattle.text.specs.declared.Written.{Written}
 use Rattle.text.specs.declared.Written.the-variants.{Length, Failed}
-use Rattle.edf_c.specs.Answers.{codeOf, valueAfter, positionAfter}
+use Rattle.keyword.specs.Answers.{locatedOutcome, locatedBytes}
+use Rattle.keyword.specs.declared.Located.{Located}
+use Rattle.keyword.specs.declared.Located.the-variants as located
+use Rattle.edf_c.specs.Answers.{codeOf, valueAfter, positionAfter, withValue}
 
 module _ {A : Type 0} where
   -- The code r, the value w and the position q are those of the outcome o, where the rooms held v and p.
@@ -42,3 +47,24 @@ module _ (o : Outcome (List ℕ)) (before after : List ℕ) (v p : ℕ) {r : Wri
       let a : Answers (lengthWritten o before) v p (e .code) v (e .position) =
       fails (lengthWritten o before) v p (sym (ap writtenOutcome q) ∙ h .0) in
       (a .0, (a .1 .0, (a .1 .1, h .1)))
+
+-- ---- The call that answers where a value stands
+
+-- The same for the span o and the bytes w of a value in the file s.
+abbrev pub Finds : List ℕ → Outcome Span → Outcome (List ℕ) → Span → ℕ → ℕ → Span → ℕ → Type 0
+Finds s o w v p r x q =
+    (r ≡ codeOf o) × ((x ≡ valueAfter o v) × ((q ≡ positionAfter o p) × (w ≡ withValue o (partOf s x))))
+
+module _ (s : List ℕ) (o : Outcome Span) (w : Outcome (List ℕ)) (v : Span) (p : ℕ) {r : Located}
+    (h : (locatedOutcome r ≡ o) × (locatedBytes s r ≡ w)) where
+  pub finds : {x : Span} → r ≡ located.At x → Finds s o w v p 0 x p
+  finds {x} q =
+      let k : ok x ≡ o = sym (ap locatedOutcome q) ∙ h .0 in
+      let a : Answers o v p 0 x p = succeeds o v p k in
+      (a .0, (a .1 .0, (a .1 .1, sym (h .1) ∙ ap (locatedBytes s) q ∙ ap (λ (y : Outcome Span). withValue y (partOf s x)) k)))
+
+  pub finds-none : {e : Error} → r ≡ located.Failed e → Finds s o w v p (e .code) v (e .position)
+  finds-none {e} q =
+      let k : failed e ≡ o = sym (ap locatedOutcome q) ∙ h .0 in
+      let a : Answers o v p (e .code) v (e .position) = fails o v p k in
+      (a .0, (a .1 .0, (a .1 .1, sym (h .1) ∙ ap (locatedBytes s) q ∙ ap (λ (y : Outcome Span). withValue y (partOf s v)) k)))

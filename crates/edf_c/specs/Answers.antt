@@ -17,3 +17,8 @@ module _ {A : Type 0} where
   abbrev pub positionAfter : Outcome A → ℕ → ℕ
   positionAfter (ok x) before = before
   positionAfter (failed e) before = e .position
+
+  -- The same outcome with another value.
+  abbrev pub withValue : {B : Type 0} → Outcome A → B → Outcome B
+  withValue (ok x) y = ok y
+  withValue (failed e) y = failed e

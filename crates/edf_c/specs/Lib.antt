@@ -1,2 +1,2 @@
 pub mod Answers
-pub mod Frames
+pub mod Fields

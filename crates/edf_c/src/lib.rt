@@ -1,16 +1,21 @@
 // The public calls for C and for other languages: numbers and slices only. A slice is a pointer and a length. Each call answers a
 // code, 0 for success or the number of the error in document 01's table; the value and the position go into numbers that the caller
 // lends. In an error the value's room and every lent buffer hold what they held; in success the position's room does.
+use array::Described;
+use keyword::Located;
+use keyword::Number;
 use text::Written;
 use writer::Frame;
 ghost use mathlib.Core.Path.{_≡_};
 ghost use Rattle.scan.specs.Buffer.{lengthWritten, bufferAfter};
+ghost use Rattle.scan.specs.Byte.{partOf};
 ghost use Rattle.text.specs.Text.{escaped, unescaped};
-ghost use Rattle.keyword.specs.Keyword.{textIn};
+ghost use Rattle.keyword.specs.Keyword.{found, valueFound, wholeNumberOf, textIn};
+ghost use Rattle.array.specs.Describe.{descriptionOf};
 ghost use Rattle.array.specs.Delivery.{arrayIn};
 ghost use Rattle.writer.specs.File.{writtenFile};
-ghost use Rattle.edf_c.specs.Answers.{codeOf, valueAfter, positionAfter};
-ghost use Rattle.edf_c.specs.Frames.{frameOf};
+ghost use Rattle.edf_c.specs.Answers.{codeOf, valueAfter, positionAfter, withValue};
+ghost use Rattle.edf_c.specs.Fields.{frameOf, fieldsOf, spanOf};
 
 // The array of a block in a byte order, at the front of the lent buffer: `edf::read_array`.
 #[no_mangle]
@@ -158,6 +163,103 @@ pub extern "C" fn edf_unescape(
             0
         }
         Written::Failed(e) => {
+            *position = e.position;
+            e.code
+        }
+    }
+}
+
+// The value of a keyword of a block as a whole number: `edf::whole_number`.
+#[no_mangle]
+pub extern "C" fn edf_whole_number(
+    file: &[u8],
+    block: usize,
+    key: &[u8],
+    value: &mut i64,
+    position: &mut usize,
+) -> u8
+    ensures { λ r. ⌜ r ≡ codeOf (wholeNumberOf (now (file .entry)) block (now (key .entry))) ⌝ }
+    ensures { λ _. ⌜ now (value .exit) ≡ valueAfter (wholeNumberOf (now (file .entry)) block (now (key .entry))) (now (value .entry)) ⌝ }
+    ensures { λ _. ⌜ now (position .exit) ≡ positionAfter (wholeNumberOf (now (file .entry)) block (now (key .entry))) (now (position .entry)) ⌝ }
+{
+    match edf::whole_number(file, block, key) {
+        Number::Value(n) => {
+            *value = n;
+            0
+        }
+        Number::Failed(e) => {
+            *position = e.position;
+            e.code
+        }
+    }
+}
+
+// Where the value of a keyword of a block stands in the file, by its offset and its length: `edf::find`. The bytes there are the
+// value.
+#[no_mangle]
+pub extern "C" fn edf_find(
+    file: &[u8],
+    block: usize,
+    key: &[u8],
+    offset: &mut usize,
+    length: &mut usize,
+    position: &mut usize,
+) -> u8
+    ensures { λ r. ⌜ r ≡ codeOf (found (now (file .entry)) block (now (key .entry))) ⌝ }
+    ensures { λ _. ⌜ spanOf (now (offset .exit)) (now (length .exit)) ≡ valueAfter (found (now (file .entry)) block (now (key .entry))) (spanOf (now (offset .entry)) (now (length .entry))) ⌝ }
+    ensures { λ _. ⌜ now (position .exit) ≡ positionAfter (found (now (file .entry)) block (now (key .entry))) (now (position .entry)) ⌝ }
+    ensures { λ _. ⌜ valueFound (now (file .entry)) block (now (key .entry)) ≡ withValue (found (now (file .entry)) block (now (key .entry))) (partOf (now (file .entry)) (spanOf (now (offset .exit)) (now (length .exit)))) ⌝ }
+{
+    match edf::find(file, block, key) {
+        Located::At(p) => {
+            *offset = p.offset;
+            *length = p.length;
+            0
+        }
+        Located::Failed(e) => {
+            *position = e.position;
+            e.code
+        }
+    }
+}
+
+// The description of a block's array, field by field: `edf::describe`.
+#[no_mangle]
+pub extern "C" fn edf_describe(
+    file: &[u8],
+    block: usize,
+    datatype: &mut u8,
+    byteorder: &mut u8,
+    compression: &mut u8,
+    n: &mut u8,
+    dim1: &mut usize,
+    dim2: &mut usize,
+    dim3: &mut usize,
+    configuration: &mut u32,
+    orientation: &mut u32,
+    offset: &mut i64,
+    position: &mut usize,
+) -> u8
+    ensures { λ r. ⌜ r ≡ codeOf (descriptionOf (now (file .entry)) block) ⌝ }
+    ensures { λ _. ⌜ fieldsOf (now (datatype .exit)) (now (byteorder .exit)) (now (compression .exit)) (now (n .exit)) (now (dim1 .exit)) (now (dim2 .exit)) (now (dim3 .exit)) (now (configuration .exit)) (now (orientation .exit)) (now (offset .exit)) ≡ valueAfter (descriptionOf (now (file .entry)) block) (fieldsOf (now (datatype .entry)) (now (byteorder .entry)) (now (compression .entry)) (now (n .entry)) (now (dim1 .entry)) (now (dim2 .entry)) (now (dim3 .entry)) (now (configuration .entry)) (now (orientation .entry)) (now (offset .entry))) ⌝ }
+    ensures { λ _. ⌜ now (position .exit) ≡ positionAfter (descriptionOf (now (file .entry)) block) (now (position .entry)) ⌝ }
+{
+    match edf::describe(file, block) {
+        Described::Array(d) => {
+            *datatype = d.datatype;
+            *byteorder = d.byteorder;
+            *compression = d.compression;
+            *n = d.n;
+            *dim1 = d.dim1;
+            *dim2 = d.dim2;
+            *dim3 = d.dim3;
+            *configuration = d.configuration;
+            *orientation = d.orientation;
+            let shift = d.offset;
+            *offset = shift;
+            0
+        }
+        Described::Failed(e) => {
             *position = e.position;
             e.code
         }

@@ -1,4 +1,4 @@
--- The file of a frame that is made of a call's numbers.
+-- Records that a call gets or gives field by field: the fields that have a sign are the same numbers after they are stored.
 use mathlib.Core.Path.{_≡_}
 use mathlib.Core.List.{List}
 use Prim.Native.Nat.{ℕ}
@@ -6,11 +6,12 @@ use lib.IntN.{ℤ}
 use Rattle.scan.specs.Outcome.{Outcome}
 use Rattle.scan.specs.Buffer.{lengthWritten, bufferAfter}
 use Rattle.text.proofs.Buffers.{of-equal}
+use Rattle.array.specs.declared.Description.{Description}
 use Rattle.writer.specs.File.{writtenFile}
 use Rattle.writer.specs.declared.Frame.{Frame}
-use Rattle.edf_c.specs.Frames.{frameOf}
+use Rattle.edf_c.specs.Fields.{frameOf, fieldsOf}
 
--- What is answered for a frame is answered for its fields, of which two have a sign.
+-- What is answered for a frame is answered for its fields.
 module _ (f : Frame) where
   abbrev signed : ℤ → ℤ → Frame
   signed sequence memory =
@@ -22,3 +23,12 @@ module _ (f : Frame) where
       → (r ≡ lengthWritten (writtenFile (signed sequence memory) title pixels) before)
       × (after ≡ bufferAfter (writtenFile (signed sequence memory) title pixels) before)
   of-fields before title pixels h s m = of-equal _ _ _ (λ i. writtenFile (signed (s i) (m i)) title pixels) h
+
+-- A description is made of its fields.
+module _ (d : Description) where
+  abbrev shifted : ℤ → Description
+  shifted offset =
+      fieldsOf (d .datatype) (d .byteorder) (d .compression) (d .n) (d .dim1) (d .dim2) (d .dim3) (d .configuration) (d .orientation) offset
+
+  pub same-description : {offset : ℤ} → offset ≡ d .offset → shifted offset ≡ d
+  same-description q = λ i. shifted (q i)
