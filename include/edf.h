@@ -17,9 +17,9 @@
  *   8 key twice                              20 data shorter than the array
  *   9 a rule on EDF_ keys or Size broken     21 nonzero offset on floats
  *  10 EDF_BinaryFileName                     22 buffer too small
- *  11 header length                          24 bad argument
- *  12 data past the end of the file          25 text too long
- *  13 identity twice
+ *  11 header length                          23 index outside
+ *  12 data past the end of the file          24 bad argument
+ *  13 identity twice                         25 text too long
  */
 #ifndef EDF_H
 #define EDF_H
@@ -66,6 +66,12 @@ uint8_t edf_find(const uint8_t *file, size_t file_length, size_t block, const ui
 uint8_t edf_describe(const uint8_t *file, size_t file_length, size_t block, uint8_t *datatype, uint8_t *byteorder,
                      uint8_t *compression, uint8_t *n, size_t *dim1, size_t *dim2, size_t *dim3, uint32_t *configuration,
                      uint32_t *orientation, int64_t *offset, size_t *position);
+
+/* One pixel of a block's array, at an index of three numbers from 0; those past the array's dimensions are 0. *class_ is 1 for an
+ * unsigned and 2 for a signed whole number, 3 for a 32-bit and 4 for a 64-bit float, and the number of that class is set; the
+ * numbers of the other classes stay as they were. Errors: those of edf_describe, 23. */
+uint8_t edf_read_pixel(const uint8_t *file, size_t file_length, size_t block, size_t i1, size_t i2, size_t i3, uint8_t *class_,
+                       uint64_t *unsigned_, int64_t *signed_, float *float32, double *float64, size_t *position);
 
 #ifdef __cplusplus
 }

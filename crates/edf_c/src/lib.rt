@@ -2,8 +2,10 @@
 // code, 0 for success or the number of the error in document 01's table; the value and the position go into numbers that the caller
 // lends. In an error the value's room and every lent buffer hold what they held; in success the position's room does.
 use array::Described;
+use array::Sampled;
 use keyword::Located;
 use keyword::Number;
+use raster::Pixel;
 use text::Written;
 use writer::Frame;
 ghost use mathlib.Core.Path.{_≡_};
@@ -12,10 +14,11 @@ ghost use Rattle.scan.specs.Byte.{partOf};
 ghost use Rattle.text.specs.Text.{escaped, unescaped};
 ghost use Rattle.keyword.specs.Keyword.{found, valueFound, wholeNumberOf, textIn};
 ghost use Rattle.array.specs.Describe.{descriptionOf};
-ghost use Rattle.array.specs.Delivery.{arrayIn};
+ghost use Rattle.array.specs.Delivery.{arrayIn, pixelIn};
 ghost use Rattle.writer.specs.File.{writtenFile};
 ghost use Rattle.edf_c.specs.Answers.{codeOf, valueAfter, positionAfter, withValue};
 ghost use Rattle.edf_c.specs.Fields.{frameOf, fieldsOf, spanOf};
+ghost use Rattle.edf_c.specs.Samples.{sampleOf, sampleAfter};
 
 // The array of a block in a byte order, at the front of the lent buffer: `edf::read_array`.
 #[no_mangle]
@@ -260,6 +263,55 @@ pub extern "C" fn edf_describe(
             0
         }
         Described::Failed(e) => {
+            *position = e.position;
+            e.code
+        }
+    }
+}
+
+// One pixel of a block's array: `edf::read_pixel`. Its class, and the number of that class; the other numbers stay.
+#[no_mangle]
+pub extern "C" fn edf_read_pixel(
+    file: &[u8],
+    block: usize,
+    i1: usize,
+    i2: usize,
+    i3: usize,
+    class: &mut u8,
+    unsigned: &mut u64,
+    signed: &mut i64,
+    float32: &mut f32,
+    float64: &mut f64,
+    position: &mut usize,
+) -> u8
+    ensures { λ r. ⌜ r ≡ codeOf (pixelIn (now (file .entry)) block i1 i2 i3) ⌝ }
+    ensures { λ _. ⌜ sampleOf (now (class .exit)) (now (unsigned .exit)) (now (signed .exit)) (now (float32 .exit)) (now (float64 .exit)) ≡ sampleAfter (pixelIn (now (file .entry)) block i1 i2 i3) (sampleOf (now (class .entry)) (now (unsigned .entry)) (now (signed .entry)) (now (float32 .entry)) (now (float64 .entry))) ⌝ }
+    ensures { λ _. ⌜ now (position .exit) ≡ positionAfter (pixelIn (now (file .entry)) block i1 i2 i3) (now (position .entry)) ⌝ }
+{
+    match edf::read_pixel(file, block, i1, i2, i3) {
+        Sampled::Value(p) => match p {
+            Pixel::Unsigned(n) => {
+                *class = 1;
+                *unsigned = n;
+                0
+            }
+            Pixel::Signed(z) => {
+                *class = 2;
+                *signed = z;
+                0
+            }
+            Pixel::Float32(x) => {
+                *class = 3;
+                *float32 = x;
+                0
+            }
+            Pixel::Float64(y) => {
+                *class = 4;
+                *float64 = y;
+                0
+            }
+        },
+        Sampled::Failed(e) => {
             *position = e.position;
             e.code
         }
