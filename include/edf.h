@@ -2,24 +2,25 @@
  *
  * Every call answers 0, or the code of an error. In success the numbers behind `value`, `offset`, `length` .. are set and *position
  * stays as it was; in an error *position is set, and all the other numbers and buffers that are lent stay as they were.
- * A slice is a pointer and the number of its bytes. No pointer may be NULL, also where that number is 0, and what is lent for
- * writing must not overlap anything else that the call gets.
+ * A slice is a pointer and the number of its bytes, or for the table of edf_open the number of its 64-bit numbers. No pointer may be
+ * NULL, also where that number is 0, and what is lent for writing must not overlap anything else that the call gets.
  *
  * Calls with `file` and `block` judge the whole file first: its errors are 1 and 3 to 15, with their positions. Blocks are numbered
  * from 0.
  *
  *   1 file over 1,073,741,824 bytes          14 bytes left after 256 blocks
- *   3 no start of a header here              15 EDF_DataBlocks does not match
- *   4 a byte that can't stand in a header    16 no such block or keyword, or an array asked of the general block
- *   5 header without an end                  17 unknown word; the position is the field's number, 1 to 3
- *   6 statement broken                       18 bad number or range; the position is the field's number, 4 to 7, or 0
- *   7 key or value too long                  19 Dim_1 to Dim_4 all found
- *   8 key twice                              20 data shorter than the array
- *   9 a rule on EDF_ keys or Size broken     21 nonzero offset on floats
- *  10 EDF_BinaryFileName                     22 buffer too small
- *  11 header length                          23 index outside
- *  12 data past the end of the file          24 bad argument
- *  13 identity twice                         25 text too long
+ *   2 table under 256 rows                   15 EDF_DataBlocks does not match
+ *   3 no start of a header here              16 no such block or keyword, or an array asked of the general block
+ *   4 a byte that can't stand in a header    17 unknown word; the position is the field's number, 1 to 3
+ *   5 header without an end                  18 bad number or range; the position is the field's number, 4 to 7, or 0
+ *   6 statement broken                       19 Dim_1 to Dim_4 all found
+ *   7 key or value too long                  20 data shorter than the array
+ *   8 key twice                              21 nonzero offset on floats
+ *   9 a rule on EDF_ keys or Size broken     22 buffer too small
+ *  10 EDF_BinaryFileName                     23 index outside
+ *  11 header length                          24 bad argument
+ *  12 data past the end of the file          25 text too long
+ *  13 identity twice
  */
 #ifndef EDF_H
 #define EDF_H
@@ -30,6 +31,20 @@
 #ifdef __cplusplus
 extern "C" {
 #endif
+
+/* A block of a file, as edf_open gives it: its start, the length of its header, the size of its data, and its kind, 0 for a general
+ * block and 1 for a data block; then its identity, with instance 1 for Psd and 2 for Error. */
+typedef struct {
+    uint64_t start, header, size, kind;
+    int64_t sequence;
+    uint64_t instance;
+    int64_t memory;
+} edf_row;
+
+/* Opens a file into a table of at least 256 rows: *count is the number of its blocks, and the first rows are theirs, in order; the
+ * other rows stay as they were. The table is lent as numbers, 7 to a row: for `edf_row table[256]`, `rows` is (uint64_t *)table and
+ * `rows_length` is 7 * 256. Errors: 1 to 15. */
+uint8_t edf_open(const uint8_t *file, size_t file_length, uint64_t *rows, size_t rows_length, size_t *count, size_t *position);
 
 /* The array of a block at the front of `out`, in the byte order 1, high byte first, or 2, low byte first; *length is its bytes.
  * Index 1 runs fastest. Errors: those of edf_describe, 24, 22. */

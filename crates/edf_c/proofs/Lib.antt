@@ -1,3 +1,4 @@
 pub mod Answering
 pub mod Fields
 pub mod Sampling
+pub mod Tabling

@@ -1,17 +1,23 @@
 // The public calls for C and for other languages: numbers and slices only. A slice is a pointer and a length. Each call answers a
 // code, 0 for success or the number of the error in document 01's table; the value and the position go into numbers that the caller
 // lends. In an error the value's room and every lent buffer hold what they held; in success the position's room does.
+pub mod table;
+
 use array::Described;
 use array::Sampled;
+use blocks::Opened;
 use keyword::Located;
 use keyword::Number;
 use raster::Pixel;
 use text::Written;
 use writer::Frame;
 ghost use mathlib.Core.Path.{_≡_};
+ghost use Prim.Native.Nat.{_/_};
+ghost use lib.ListN.{length};
 ghost use Rattle.scan.specs.Buffer.{lengthWritten, bufferAfter};
 ghost use Rattle.scan.specs.Byte.{partOf};
 ghost use Rattle.text.specs.Text.{escaped, unescaped};
+ghost use Rattle.blocks.specs.Opening.{openedInto, countOf};
 ghost use Rattle.keyword.specs.Keyword.{found, valueFound, wholeNumberOf, textIn};
 ghost use Rattle.array.specs.Describe.{descriptionOf};
 ghost use Rattle.array.specs.Delivery.{arrayIn, pixelIn};
@@ -19,6 +25,7 @@ ghost use Rattle.writer.specs.File.{writtenFile};
 ghost use Rattle.edf_c.specs.Answers.{codeOf, valueAfter, positionAfter, withValue};
 ghost use Rattle.edf_c.specs.Fields.{frameOf, fieldsOf, spanOf};
 ghost use Rattle.edf_c.specs.Samples.{sampleOf, sampleAfter};
+ghost use Rattle.edf_c.specs.Table.{numbersAfter};
 
 // The array of a block in a byte order, at the front of the lent buffer: `edf::read_array`.
 #[no_mangle]
@@ -312,6 +319,35 @@ pub extern "C" fn edf_read_pixel(
             }
         },
         Sampled::Failed(e) => {
+            *position = e.position;
+            e.code
+        }
+    }
+}
+
+// Opens a file into a lent table, as `edf::open` does. The table is lent as numbers, seven a row, of which the file's blocks take
+// the first; the others stay.
+#[no_mangle]
+pub extern "C" fn edf_open(
+    file: &[u8],
+    rows: &mut [u64],
+    count: &mut usize,
+    position: &mut usize,
+) -> u8
+    ensures { λ r. ⌜ r ≡ codeOf (countOf (openedInto (length (now (rows .entry)) / 7) (now (file .entry)))) ⌝ }
+    ensures { λ _. ⌜ now (count .exit) ≡ valueAfter (countOf (openedInto (length (now (rows .entry)) / 7) (now (file .entry)))) (now (count .entry)) ⌝ }
+    ensures { λ _. ⌜ now (position .exit) ≡ positionAfter (countOf (openedInto (length (now (rows .entry)) / 7) (now (file .entry)))) (now (position .entry)) ⌝ }
+    ensures { λ _. ⌜ now (rows .exit) ≡ numbersAfter (openedInto (length (now (rows .entry)) / 7) (now (file .entry))) (now (rows .entry)) ⌝ }
+{
+    let p = opening::table::planned(file, rows.len() / 7);
+    let answer = p.answer;
+    table::put_rows(rows, p);
+    match answer {
+        Opened::Blocks(n) => {
+            *count = n;
+            0
+        }
+        Opened::Failed(e) => {
             *position = e.position;
             e.code
         }

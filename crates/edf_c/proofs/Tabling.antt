@@ -1,0 +1,92 @@
+-- The rows of a plan as numbers, and what the call that opens a file answers.
+use mathlib.Core.Path.{_≡_, refl, sym, ap, _∙_}
+use mathlib.Core.List.{List, [], _∷_, _++_}
+use Prim.Native.Nat.{ℕ, zero, suc, _+_, _-_, _*_, _≤_}
+use native.Mathlib.Omega.{arith}
+use lib.IntN.{negsuc}
+use lib.ListN.{length, getD, take}
+use lib.Seq.{take-suc}
+use Rattle.scan.specs.Buffer.{over}
+use Rattle.scan.specs.Outcome.{Outcome, ok, failed}
+use Rattle.scan.specs.declared.Error.{Error}
+use Rattle.raster.specs.Bytes.{joined}
+use Rattle.raster.specs.Strided.{patched}
+use Rattle.elements.proofs.Filling.{piece-more}
+use Rattle.blocks.specs.Answers.{openedOutcome}
+use Rattle.blocks.specs.Opening.{countOf}
+use Rattle.blocks.specs.declared.Opened.the-variants.{Blocks, Failed}
+use Rattle.blocks.specs.declared.Row.{Row}
+use Rattle.opening.specs.Table.{rowsOf, Plans}
+use Rattle.opening.specs.declared.Plan.{Plan}
+use Rattle.edf.proofs.TableLaws.{no-row}
+use Rattle.edf_c.specs.Answers.{codeOf, valueAfter, positionAfter}
+use Rattle.edf_c.specs.Table.{bitsOf, numbersOf, allNumbers, numbersAfter}
+use Rattle.edf_c.proofs.Answering.{Answers, succeeds, fails}
+
+-- The bits of -(n + 1).
+pub down-bits : (n : ℕ) → 18446744073709551615 - n ≡ bitsOf (negsuc n)
+down-bits n = omega arith
+
+pub numbers-are : (r : Row) {a b : ℕ} → a ≡ bitsOf (r .sequence) → b ≡ bitsOf (r .memory)
+    → r .start ∷ r .header ∷ r .size ∷ r .kind ∷ a ∷ r .instance ∷ b ∷ [] ≡ numbersOf r
+numbers-are r p q = λ i. r .start ∷ r .header ∷ r .size ∷ r .kind ∷ p i ∷ r .instance ∷ q i ∷ []
+
+all-append : (a b : List Row) → allNumbers (a ++ b) ≡ allNumbers a ++ allNumbers b
+unfolding allNumbers
+all-append [] b = refl
+all-append (r ∷ a) b = ap (λ (l : List ℕ). numbersOf r ++ l) (all-append a b)
+
+-- The numbers of row i.
+abbrev pub piece : List Row → ℕ → List ℕ
+piece rows i = numbersOf (getD rows i no-row)
+
+-- The numbers of the first n rows.
+joined-rows : (rows : List Row) (n : ℕ) → n ≤ length rows → joined n (piece rows) ≡ allNumbers (take n rows)
+unfolding joined allNumbers
+joined-rows rows zero h = refl
+joined-rows rows (suc n) h =
+    ap (λ (l : List ℕ). l ++ piece rows n) (joined-rows rows n (omega arith))
+    ∙ sym (ap allNumbers (take-suc rows n no-row h) ∙ all-append (take n rows) (getD rows n no-row ∷ []))
+
+-- The first i rows are laid over the lent numbers d.
+pub laid-none : (rows : List Row) (d : List ℕ) → d ≡ over (joined 0 (piece rows)) d
+unfolding joined
+laid-none rows d = refl
+
+pub laid-more : (rows : List Row) (d : List ℕ) (i : ℕ) (l q : List ℕ) → l ≡ over (joined i (piece rows)) d → q ≡ piece rows i
+    → patched (7 * i) 7 l q ≡ over (joined (i + 1) (piece rows)) d
+laid-more rows d i l q e f = piece-more (piece rows) 7 (i + 1) d (λ j h. refl) i (7 * i) 7 l q (omega arith) e refl refl f
+
+pub laid-all : (rows : List Row) (d : List ℕ) (n i : ℕ) (l : List ℕ) → n ≤ length rows → i ≡ n → l ≡ over (joined i (piece rows)) d
+    → l ≡ over (allNumbers (take n rows)) d
+laid-all rows d n i l h q e =
+    e ∙ ap (λ (k : ℕ). over (joined k (piece rows)) d) q ∙ ap (λ (w : List ℕ). over w d) (joined-rows rows n h)
+
+-- ---- What the call answers
+
+rows-after : (o : Outcome (List Row)) (d : List ℕ) → over (allNumbers (rowsOf o)) d ≡ numbersAfter o d
+unfolding allNumbers
+rows-after (ok rows) d = refl
+rows-after (failed e) d = refl
+
+-- The code r, the number w of blocks, the position q and the lent numbers are those of the outcome o.
+abbrev pub Opens : Outcome (List Row) → List ℕ → ℕ → ℕ → ℕ → ℕ → ℕ → List ℕ → Type 0
+Opens o before v p r w q after =
+    (r ≡ codeOf (countOf o))
+    × ((w ≡ valueAfter (countOf o) v) × ((q ≡ positionAfter (countOf o) p) × (after ≡ numbersAfter o before)))
+
+module _ (o : Outcome (List Row)) (before after : List ℕ) (v p : ℕ) {n : ℕ} {plan : Plan} (h : Plans o n plan)
+    (laid : after ≡ over (allNumbers (take (plan .count) (plan .rows))) before) where
+  placed : after ≡ numbersAfter o before
+  placed = laid ∙ ap (λ (rows : List Row). over (allNumbers rows) before) (h .places) ∙ rows-after o before
+
+  pub opens : {k : ℕ} → plan .answer ≡ Blocks k → Opens o before v p 0 k p after
+  opens {k} q =
+      let a : Answers (countOf o) v p 0 k p = succeeds (countOf o) v p (sym (ap openedOutcome q) ∙ h .answers) in
+      (a .0, (a .1 .0, (a .1 .1, placed)))
+
+  pub opens-none : {e : Error} → plan .answer ≡ Failed e → Opens o before v p (e .code) v (e .position) after
+  opens-none {e} q =
+      let a : Answers (countOf o) v p (e .code) v (e .position) =
+      fails (countOf o) v p (sym (ap openedOutcome q) ∙ h .answers) in
+      (a .0, (a .1 .0, (a .1 .1, placed)))
