@@ -1,0 +1,144 @@
+//! Calls of the interface and their answers, in a form that two readers share.
+
+use crate::reader;
+use crate::reader::{Description, Frame, Row};
+
+/// A call of the interface on a file.
+#[derive(Clone, Debug, PartialEq)]
+pub enum Call {
+    Open { rows: usize },
+    Find { block: usize, key: Vec<u8> },
+    Part { start: usize, length: usize },
+    WholeNumber { block: usize, key: Vec<u8> },
+    Text { block: usize, key: Vec<u8>, room: usize },
+    Describe { block: usize },
+    ReadArray { block: usize, order: u8, room: usize },
+    ReadPixel { block: usize, i1: usize, i2: usize, i3: usize },
+    Escape { text: Vec<u8>, room: usize },
+    Unescape { value: Vec<u8>, room: usize },
+    Write { frame: Frame, title: Vec<u8>, pixels: Vec<u8>, room: usize },
+    List,
+}
+
+/// An answer of one call. Floats are their bits, and none for NaN: "compare as is NaN only".
+#[derive(Clone, Debug, PartialEq)]
+pub enum Answer {
+    Rows(Vec<Row>),
+    Place { start: usize, length: usize },
+    Bytes(Vec<u8>),
+    Number(i64),
+    Description(Description),
+    Unsigned(u64),
+    Signed(i64),
+    Float32(Option<u32>),
+    Float64(Option<u64>),
+    Failed { code: u8, position: usize },
+}
+
+pub fn float_32(value: f32) -> Answer {
+    Answer::Float32(Some(value).filter(|value| !value.is_nan()).map(f32::to_bits))
+}
+
+pub fn float_64(value: f64) -> Answer {
+    Answer::Float64(Some(value).filter(|value| !value.is_nan()).map(f64::to_bits))
+}
+
+/// Makes the function that answers a call with the reader in module `$reader`.
+#[macro_export]
+macro_rules! answer_function {
+    ($name:ident, $reader:ident) => {
+        pub fn $name(file: &[u8], call: &$crate::answer::Call) -> $crate::answer::Answer {
+            use $crate::answer::{float_32, float_64, Answer, Call};
+            use $crate::reader::{Description, Row};
+            let row = |r: &$reader::Row| Row {
+                start: r.start,
+                header_length: r.header_length,
+                data_length: r.data_length,
+                kind: r.kind,
+                sequence: r.sequence,
+                instance: r.instance,
+                memory: r.memory,
+            };
+            let description = |d: $reader::Description| Description {
+                data_type: d.data_type,
+                order: d.order,
+                compression: d.compression,
+                n: d.n,
+                dim_1: d.dim_1,
+                dim_2: d.dim_2,
+                dim_3: d.dim_3,
+                configuration: d.configuration,
+                orientation: d.orientation,
+                offset: d.offset,
+            };
+            let pixel = |p: $reader::Pixel| match p {
+                $reader::Pixel::Unsigned(value) => Answer::Unsigned(value),
+                $reader::Pixel::Signed(value) => Answer::Signed(value),
+                $reader::Pixel::Float32(value) => float_32(value),
+                $reader::Pixel::Float64(value) => float_64(value),
+            };
+            let answer = match call {
+                Call::Open { rows } => {
+                    $reader::open(file, *rows).map(|table| Answer::Rows(table.iter().map(row).collect()))
+                }
+                Call::Find { block, key } => $reader::find(file, *block, key)
+                    .map(|span| Answer::Place { start: span.start, length: span.length }),
+                Call::Part { start, length } => {
+                    let span = $reader::Span { start: *start, length: *length };
+                    Ok(Answer::Bytes($reader::part(file, span).to_vec()))
+                }
+                Call::WholeNumber { block, key } => $reader::whole_number(file, *block, key).map(Answer::Number),
+                Call::Text { block, key, room } => $reader::text(file, *block, key, *room).map(Answer::Bytes),
+                Call::Describe { block } => {
+                    $reader::describe(file, *block).map(|d| Answer::Description(description(d)))
+                }
+                Call::ReadArray { block, order, room } => {
+                    $reader::read_array(file, *block, *order, *room).map(Answer::Bytes)
+                }
+                Call::ReadPixel { block, i1, i2, i3 } => {
+                    $reader::read_pixel(file, *block, *i1, *i2, *i3).map(pixel)
+                }
+                Call::Escape { text, room } => $reader::escape(text, *room).map(Answer::Bytes),
+                Call::Unescape { value, room } => $reader::unescape(value, *room).map(Answer::Bytes),
+                Call::Write { frame, title, pixels, room } => {
+                    let frame = $reader::Frame {
+                        sequence: frame.sequence,
+                        instance: frame.instance,
+                        memory: frame.memory,
+                        data_type: frame.data_type,
+                        order: frame.order,
+                        n: frame.n,
+                        dim_1: frame.dim_1,
+                        dim_2: frame.dim_2,
+                        dim_3: frame.dim_3,
+                        configuration: frame.configuration,
+                    };
+                    $reader::write(frame, title, pixels, *room).map(Answer::Bytes)
+                }
+                Call::List => Ok(Answer::Bytes($reader::list(file))),
+            };
+            answer.unwrap_or_else(|e| Answer::Failed { code: e.code, position: e.position })
+        }
+    };
+}
+
+answer_function!(answer, reader);
+
+#[cfg(test)]
+mod tests {
+    use super::*;
+
+    #[test]
+    fn nans_are_one_answer() {
+        assert_eq!(float_32(f32::from_bits(0x7f80_0001)), float_32(f32::from_bits(0xffc0_0000)));
+        assert_eq!(float_64(f64::NAN), Answer::Float64(None));
+        assert_ne!(float_32(0.0), float_32(-0.0));
+    }
+
+    #[test]
+    fn refusals_and_answers() {
+        assert_eq!(answer(b"", &Call::Open { rows: 255 }), Answer::Failed { code: 2, position: 0 });
+        assert_eq!(answer(b"", &Call::List), Answer::Bytes(b"refused 3 0\n".to_vec()));
+        assert_eq!(answer(b"abc", &Call::Part { start: 1, length: 2 }), Answer::Bytes(b"bc".to_vec()));
+    }
+}

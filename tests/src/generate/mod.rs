@@ -1,0 +1,63 @@
+//! Generated cases: a file and calls on it.
+
+pub mod calls;
+pub mod dress;
+pub mod edf_keys;
+pub mod fields;
+pub mod flips;
+pub mod mutate;
+pub mod plan;
+pub mod random;
+pub mod shapes;
+pub mod valid;
+pub mod values;
+pub mod words;
+
+use crate::answer::Call;
+use random::Random;
+
+/// A file and calls on it.
+#[derive(Clone, Debug)]
+pub struct Case {
+    pub file: Vec<u8>,
+    pub calls: Vec<Call>,
+}
+
+/// Cases without end; the same seed gives the same cases.
+pub struct Cases {
+    random: Random,
+}
+
+impl Cases {
+    pub fn new(seed: u64) -> Cases {
+        Cases { random: Random::new(seed) }
+    }
+}
+
+impl Iterator for Cases {
+    type Item = Case;
+
+    /// A quarter valid, half with structured mutations, a quarter with bytes changed.
+    fn next(&mut self) -> Option<Case> {
+        let random = &mut self.random;
+        let mut plan = valid::valid(random);
+        let way = random.below(100);
+        for _ in 0..mutations(random, way) {
+            mutate::mutate(random, &mut plan);
+        }
+        let mut file = plan.render();
+        if way >= 80 {
+            flips::flip(random, &mut file);
+        }
+        let calls = calls::calls(random, &plan, &file);
+        Some(Case { file, calls })
+    }
+}
+
+/// None for valid files and half of the flipped ones, else mostly one.
+fn mutations(random: &mut Random, way: usize) -> usize {
+    match way {
+        0..=21 | 80..=89 => 0,
+        _ => random.pick(&[1, 1, 1, 1, 1, 2, 2, 3]),
+    }
+}

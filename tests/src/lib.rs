@@ -1,0 +1,8 @@
+//! A second reader of the ESRF Data Format, written from the paper "01" alone,
+//! and generated cases to compare readers with.
+
+pub mod answer;
+pub mod compare;
+pub mod generate;
+pub mod library;
+pub mod reader;

@@ -1,0 +1,103 @@
+//! The lister.
+
+use super::describe::{describe_in, Description};
+use super::element::{type_of, BYTE_ORDERS};
+use super::error::Error;
+use super::identity::identity_text;
+use super::opening::{cut, Block};
+use super::rules::Role;
+
+/// "It reads standard input, up to 65,536 bytes (more: `refused 1 0`)."
+const LONGEST_INPUT: usize = 65_536;
+
+/// What the lister prints for a file.
+pub fn list(file: &[u8]) -> Vec<u8> {
+    if file.len() > LONGEST_INPUT {
+        return b"refused 1 0\n".to_vec();
+    }
+    let lines = match cut(file) {
+        Err(error) => vec![refusal(error)],
+        Ok(blocks) => listing(file, &blocks),
+    };
+    lines.into_iter().flat_map(|line| format!("{line}\n").into_bytes()).collect()
+}
+
+/// "`refused`, number, place".
+fn refusal(error: Error) -> String {
+    format!("refused {} {}", error.code, error.position)
+}
+
+/// "It prints `blocks` and the count, then a line per block".
+fn listing(file: &[u8], blocks: &[Block]) -> Vec<String> {
+    let count = format!("blocks {}", blocks.len());
+    let lines = (0..blocks.len()).map(|block| block_line(file, blocks, block));
+    [count].into_iter().chain(lines).collect()
+}
+
+/// "number, start, header and extent length, identity (`general`, or `-` in kind 1), then ...;
+/// nothing after `general`; `refused`, number, place if not described."
+fn block_line(file: &[u8], blocks: &[Block], number: usize) -> String {
+    let block = &blocks[number];
+    let places = format!("{} {} {} {}", number, block.header.start, block.header.length, block.extent);
+    let named = format!("{places} {}", name(block));
+    if block.facts.role == Role::General {
+        return named;
+    }
+    match describe_in(file, blocks, number) {
+        Ok(description) => format!("{named} {}", description_text(&description)),
+        Err(error) => format!("{named} {}", refusal(error)),
+    }
+}
+
+fn name(block: &Block) -> String {
+    match (block.facts.role, &block.facts.identity) {
+        (Role::General, _) => "general".to_string(),
+        (_, Some(identity)) => identity_text(identity),
+        (_, None) => "-".to_string(),
+    }
+}
+
+/// "type, order, Dims joined by `x`, configuration, orientation, offset".
+fn description_text(d: &Description) -> String {
+    let kind = type_of(d.data_type).map_or("", |kind| kind.name);
+    let order = BYTE_ORDERS[usize::from(d.order == 2)];
+    let dims: Vec<String> = d.dims()[..usize::from(d.n)].iter().map(|dim| dim.to_string()).collect();
+    format!("{kind} {order} {} {} {} {}", dims.join("x"), d.configuration, d.orientation, d.offset)
+}
+
+#[cfg(test)]
+mod tests {
+    use super::super::samples::{general, one_block, padded};
+    use super::super::writer::{write, Frame};
+    use super::*;
+
+    fn listed(file: &[u8]) -> String {
+        String::from_utf8(list(file)).unwrap()
+    }
+
+    #[test]
+    fn example() {
+        let frame = Frame {
+            sequence: 1, instance: 1, memory: 1, data_type: 3, order: 1, n: 2, dim_1: 3, dim_2: 2, dim_3: 0, configuration: 6,
+        };
+        let file = write(frame, b"x;", &[0, 1, 0, 2, 0, 3, 0, 4, 0, 5, 0, 6], 9_999).unwrap();
+        let expected = "blocks 1\n0 0 512 512 1.Image.Psd UnsignedShort HighByteFirst 3x2 6 1 0\n";
+        assert_eq!(listed(&file), expected);
+    }
+
+    #[test]
+    fn general_and_empty_array() {
+        let file = [general("1", 512, ""), one_block("", b"")].concat();
+        let expected = "blocks 2\n0 0 512 0 general\n1 512 512 0 1.Image.Psd FloatIEEE32 HighByteFirst 0 1 1 0\n";
+        assert_eq!(listed(&file), expected);
+    }
+
+    #[test]
+    fn refusals() {
+        assert_eq!(listed(b""), "refused 3 0\n");
+        assert_eq!(listed(&padded("Dim_1=0;", 512)), "blocks 1\n0 0 512 0 - refused 18 4\n");
+        assert_eq!(listed(&vec![0; 65_537]), "refused 1 0\n");
+        assert_eq!(listed(&vec![0; 65_536]), "refused 3 0\n");
+        assert_eq!(listed(&padded("", 65_536)).lines().next(), Some("blocks 1"));
+    }
+}

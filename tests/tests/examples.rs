@@ -1,0 +1,86 @@
+//! The examples of 01, "Examples both sides", one by one.
+
+use edf_tests::reader::*;
+
+fn padded(body: &str, length: usize) -> Vec<u8> {
+    let mut header = format!("{{{body}").into_bytes();
+    header.resize(length - 2, b' ');
+    header.extend(b"}\n");
+    header
+}
+
+fn file(fields: &str, data: &[u8]) -> Vec<u8> {
+    let body = format!("EDF_DataBlockID=1.Image.Psd;EDF_BinarySize={};{fields}", data.len());
+    [padded(&body, 512), data.to_vec()].concat()
+}
+
+fn opened(file: &[u8]) -> (u8, usize) {
+    open(file, 256).map_or_else(|e| (e.code, e.position), |_| (0, 0))
+}
+
+#[test]
+fn arrays_of_3_by_2() {
+    let examples = [(2, [3, 2, 1, 6, 5, 4]), (5, [1, 4, 2, 5, 3, 6]), (6, [3, 6, 2, 5, 1, 4]), (7, [4, 1, 5, 2, 6, 3])];
+    for (number, stored) in examples {
+        let fields = format!("DataType=UnsignedByte;Dim_1=3;Dim_2=2;DataRasterConfiguration={number};");
+        assert_eq!(read_array(&file(&fields, &stored), 0, 1, 6), Ok(vec![1, 2, 3, 4, 5, 6]));
+    }
+}
+
+#[test]
+fn configurations_of_three_indices() {
+    assert_eq!(orders::order_of(3, 17), Some(vec![1, 3, 2]));
+    assert_eq!(orders::order_of(3, 48), Some(vec![-3, -2, -1]));
+    let fields = "DataType=UnsignedByte;Dim_1=1;Dim_2=1;Dim_3=1;DataRasterConfiguration=49;";
+    assert_eq!(describe(&file(fields, &[0]), 0), Err(Error { code: 18, position: 5 }));
+}
+
+#[test]
+fn offsets() {
+    let short = file("DataType=UnsignedShort;Dim_1=1;DataValueOffset=10;", &65_530u16.to_be_bytes());
+    assert_eq!(read_pixel(&short, 0, 0, 0, 0), Ok(Pixel::Unsigned(65_535)));
+    let byte = file("DataType=UnsignedByte;Dim_1=1;DataValueOffset=-5;", &[3]);
+    assert_eq!(read_pixel(&byte, 0, 0, 0, 0), Ok(Pixel::Unsigned(0)));
+}
+
+#[test]
+fn texts() {
+    let values = file("a=a\\:b;b=\\\";", &[]);
+    assert_eq!(text(&values, 0, b"a", 3), Ok(b"a;b".to_vec()));
+    assert_eq!(text(&values, 0, b"b", 0), Ok(vec![]));
+    assert_eq!(escape(b"x;", 5), Ok(b"\"x\\:\"".to_vec()));
+}
+
+#[test]
+fn files() {
+    assert_eq!(opened(b""), (3, 0));
+    assert_eq!(opened(&padded("", 512)), (0, 0));
+    assert_eq!(opened(&padded("", 511)), (11, 0));
+    assert_eq!(opened(&padded("", 65_536)), (0, 0));
+    assert_eq!(opened(&padded("", 66_048)), (5, 0));
+    assert_eq!(opened(&padded("EDF_DataBlockID=1.Image.Psd.1;", 512)), (9, 0));
+    assert_eq!(opened(&padded("EDF_DataBlockID=1.Image.Psd;EDF_BinarySize=1;", 512)), (12, 0));
+}
+
+#[test]
+fn listing_of_the_writers_file() {
+    let frame = Frame {
+        sequence: 1, instance: 1, memory: 1, data_type: 3, order: 1, n: 2, dim_1: 3, dim_2: 2, dim_3: 0, configuration: 6,
+    };
+    let written = write(frame, b"x;", &[0, 1, 0, 2, 0, 3, 0, 4, 0, 5, 0, 6], 1_024).unwrap();
+    let expected = "blocks 1\n0 0 512 512 1.Image.Psd UnsignedShort HighByteFirst 3x2 6 1 0\n";
+    assert_eq!(list(&written), expected.as_bytes());
+}
+
+/// "Slips to catch".
+#[test]
+fn slips() {
+    let pixels = file("DataType=UnsignedByte;Dim_1=4;", b"}\n}\n");
+    assert_eq!(read_array(&pixels, 0, 1, 4), Ok(b"}\n}\n".to_vec()));
+    assert_eq!(opened(&padded("a=};", 512)), (5, 0));
+    for (field, fields) in [(1, "DataType=x;"), (2, "ByteOrder=x;"), (3, "Compression=x;")] {
+        assert_eq!(describe(&file(fields, &[]), 0), Err(Error { code: 17, position: field }));
+    }
+    let late = [padded("EDF_DataBlockID=1.Image.Psd;Title=;EDF_BinarySize=1;", 512), vec![0]].concat();
+    assert_eq!(opened(&late), (3, 512));
+}

@@ -1,0 +1,144 @@
+//! Each number of refusal, just refused and just accepted.
+
+use edf_tests::reader::*;
+
+fn padded(body: &str, length: usize) -> Vec<u8> {
+    let mut header = format!("{{{body}").into_bytes();
+    header.resize(length - 2, b' ');
+    header.extend(b"}\n");
+    header
+}
+
+fn plain(body: &str) -> Vec<u8> {
+    padded(body, 512)
+}
+
+fn data(id: &str, body: &str) -> Vec<u8> {
+    plain(&format!("EDF_DataBlockID={id};{body}"))
+}
+
+fn array(body: &str, length: usize) -> Vec<u8> {
+    let head = data("1.Image.Psd", &format!("EDF_BinarySize={length};{body}"));
+    [head, vec![0; length]].concat()
+}
+
+fn general(count: &str) -> Vec<u8> {
+    plain(&format!("EDF_DataFormatVersion=2.42;EDF_DataBlocks={count};"))
+}
+
+type Outcome = (u8, usize);
+
+fn outcome<T>(answer: Result<T, Error>) -> Outcome {
+    answer.map_or_else(|e| (e.code, e.position), |_| (0, 0))
+}
+
+fn opened(file: &[u8]) -> Outcome {
+    outcome(open(file, 256))
+}
+
+const GOOD: Outcome = (0, 0);
+
+#[test]
+fn one_and_two() {
+    assert_eq!(opened(&vec![0; (1 << 30) + 1]), (1, 0));
+    assert_eq!(opened(&vec![0; 1 << 30]), (3, 0));
+    assert_eq!(outcome(open(&plain(""), 255)), (2, 0));
+    assert_eq!(outcome(open(&plain(""), 256)), GOOD);
+    assert_eq!(outcome(describe(&vec![0; (1 << 30) + 1], 0)), (1, 0));
+}
+
+#[test]
+fn three_to_five() {
+    let file = plain("");
+    assert_eq!(opened(&[&file[..], &file[..]].concat()), GOOD);
+    assert_eq!(opened(&[&file[..], b" ", &file[..]].concat()), (3, 512));
+    assert_eq!(opened(&plain("a=\x7f;")), GOOD);
+    assert_eq!(opened(&plain("a=\u{80};")), (4, 3));
+    assert_eq!(opened(&plain("a=\0;")), (4, 3));
+    assert_eq!(opened(&plain("a={;")), (4, 3));
+    assert_eq!(opened(&plain("a=};")), (5, 0));
+    assert_eq!(opened(&file[..511]), (5, 0));
+    assert_eq!(opened(&padded("", 65_536)), GOOD);
+    assert_eq!(opened(&padded("", 66_048)), (5, 0));
+}
+
+#[test]
+fn six_to_eight() {
+    assert_eq!(opened(&plain("a=; ")), GOOD);
+    assert_eq!(opened(&plain("a=; x")), (6, 0));
+    assert_eq!(opened(&plain("a;")), (6, 0));
+    assert_eq!(opened(&plain(" =a;")), (6, 0));
+    assert_eq!(opened(&plain(&format!("{}=1;", "k".repeat(64)))), GOOD);
+    assert_eq!(opened(&plain(&format!("{}=1;", "k".repeat(65)))), (7, 0));
+    assert_eq!(opened(&padded(&format!("k={};", "v".repeat(2_048)), 2_560)), GOOD);
+    assert_eq!(opened(&padded(&format!("k={};", "v".repeat(2_049)), 2_560)), (7, 0));
+    assert_eq!(opened(&plain("a=;b=;")), GOOD);
+    assert_eq!(opened(&plain("a=;A=;")), (8, 0));
+}
+
+#[test]
+fn nine_to_eleven() {
+    assert_eq!(opened(&plain("Size=0;")), GOOD);
+    assert_eq!(opened(&plain("Size=-1;")), (9, 0));
+    assert_eq!(opened(&data("1.Image.Psd.2", "")), GOOD);
+    assert_eq!(opened(&data("1.Image.Psd.1", "")), (9, 0));
+    assert_eq!(opened(&data("1.Image.Psd", "a=;EDF_BinaryFileName=x;")), GOOD);
+    assert_eq!(opened(&data("1.Image.Psd", "EDF_BinaryFileName=x;")), (10, 0));
+    assert_eq!(opened(&padded("", 1_024)), GOOD);
+    assert_eq!(opened(&padded("", 1_023)), (11, 0));
+    assert_eq!(opened(&data("1.Image.Psd", "EDF_HeaderSize=512;")), GOOD);
+    assert_eq!(opened(&data("1.Image.Psd", "EDF_HeaderSize=511;")), (11, 0));
+}
+
+#[test]
+fn twelve_to_fifteen() {
+    let file = array("", 9);
+    assert_eq!(opened(&file), GOOD);
+    assert_eq!(opened(&file[..520]), (12, 0));
+    assert_eq!(opened(&[data("1.Image.Psd", ""), data("2.Image.Psd", "")].concat()), GOOD);
+    assert_eq!(opened(&[data("1.Image.Psd", ""), data("+1.Image.Psd", "")].concat()), (13, 512));
+    assert_eq!(opened(&plain("").repeat(256)), GOOD);
+    assert_eq!(opened(&plain("").repeat(257)), (14, 131_072));
+    assert_eq!(opened(&[general("1"), data("1.Image.Psd", "")].concat()), GOOD);
+    assert_eq!(opened(&[general("2"), data("1.Image.Psd", "")].concat()), (15, 0));
+}
+
+#[test]
+fn sixteen_to_eighteen() {
+    let file = [general("1"), array("DataType=UnsignedByte;Dim_1=1;a=1;b=1x;", 1)].concat();
+    assert_eq!(outcome(describe(&file, 1)), GOOD);
+    assert_eq!(outcome(describe(&file, 0)), (16, 0));
+    assert_eq!(outcome(describe(&file, 2)), (16, 0));
+    assert_eq!(outcome(find(&file, 1, b"a")), GOOD);
+    assert_eq!(outcome(find(&file, 1, b"c")), (16, 0));
+    assert_eq!(outcome(whole_number(&file, 1, b"a")), GOOD);
+    assert_eq!(outcome(whole_number(&file, 1, b"b")), (18, 0));
+    assert_eq!(outcome(describe(&array("Compression=None;", 0), 0)), GOOD);
+    assert_eq!(outcome(describe(&array("Compression=none;", 0), 0)), (17, 3));
+    assert_eq!(outcome(describe(&array("DataType=UnsignedByte;Dim_1=1048576;", 1_048_576), 0)), GOOD);
+    assert_eq!(outcome(describe(&array("DataType=UnsignedByte;Dim_1=1048577;", 1_048_577), 0)), (18, 4));
+}
+
+#[test]
+fn nineteen_to_twenty_one() {
+    assert_eq!(outcome(describe(&array("Dim_1=1;Dim_2=1;Dim_3=1;", 4), 0)), GOOD);
+    assert_eq!(outcome(describe(&array("Dim_1=1;Dim_2=1;Dim_3=1;Dim_4=;", 4), 0)), (19, 0));
+    assert_eq!(outcome(describe(&array("Dim_1=1;", 4), 0)), GOOD);
+    assert_eq!(outcome(describe(&array("Dim_1=1;", 3), 0)), (20, 0));
+    assert_eq!(outcome(describe(&array("Dim_1=1;DataValueOffset=0;", 4), 0)), GOOD);
+    assert_eq!(outcome(describe(&array("Dim_1=1;DataValueOffset=1;", 4), 0)), (21, 0));
+}
+
+#[test]
+fn twenty_two_to_twenty_five() {
+    let file = array("Dim_1=2;", 8);
+    assert_eq!(outcome(read_array(&file, 0, 2, 8)), GOOD);
+    assert_eq!(outcome(read_array(&file, 0, 2, 7)), (22, 0));
+    assert_eq!(outcome(read_array(&file, 0, 3, 7)), (24, 0));
+    assert_eq!(outcome(read_pixel(&file, 0, 1, 0, 0)), GOOD);
+    assert_eq!(outcome(read_pixel(&file, 0, 2, 0, 0)), (23, 0));
+    let title = padded(&format!("a={};b={};", "v".repeat(1_023), "v".repeat(1_024)), 2_560);
+    assert_eq!(outcome(text(&title, 0, b"a", 1_023)), GOOD);
+    assert_eq!(outcome(text(&title, 0, b"a", 1_022)), (22, 0));
+    assert_eq!(outcome(text(&title, 0, b"b", 0)), (25, 0));
+}
