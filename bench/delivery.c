@@ -58,7 +58,7 @@ static void steps_of(int n, int number, const size_t dim[3], ptrdiff_t *at, ptrd
 
 // ---- One case
 
-enum { TURNS = 7 };
+enum { TURNS = 9 };
 static uint8_t *file, *out, *expected;
 
 static void measure(int type, int low_first, int asked_low, int n, size_t d1, size_t d2, size_t d3, int configuration, long long offset) {
@@ -67,22 +67,20 @@ static void measure(int type, int low_first, int asked_low, int n, size_t d1, si
     ptrdiff_t at, step[3];
     steps_of(n, configuration, dim, &at, step);
     double best[3] = {1e9, 1e9, 1e9};
-    for (int turn = 0; turn < TURNS; turn++) {
-        double t0 = now();
-        memcpy(expected, file + head, size);
-        double t1 = now();
-        plain(file + head, expected, types[type].width, types[type].is_signed, low_first, asked_low, offset, at, step, dim);
-        double t2 = now();
-        size_t length = 0, position = 0;
-        uint8_t code = edf_read_array(file, head + size, 0, asked_low ? 2 : 1, out, size, &length, &position);
-        double t3 = now();
-        if (code != 0 || length != size || memcmp(out, expected, size) != 0) {
-            printf("wrong: %s configuration %d: code %d at %zu\n", types[type].word, configuration, code, position);
-            exit(1);
+    size_t length = 0, position = 0;
+    uint8_t code = 0;
+    for (int what = 0; what < 3; what++)
+        for (int turn = 0; turn < TURNS; turn++) {
+            double t = now();
+            if (what == 0) memcpy(out, file + head, size);
+            if (what == 1) plain(file + head, expected, types[type].width, types[type].is_signed, low_first, asked_low, offset, at, step, dim);
+            if (what == 2) code = edf_read_array(file, head + size, 0, asked_low ? 2 : 1, out, size, &length, &position);
+            t = now() - t;
+            if (t < best[what]) best[what] = t;
         }
-        if (t1 - t0 < best[0]) best[0] = t1 - t0;
-        if (t2 - t1 < best[1]) best[1] = t2 - t1;
-        if (t3 - t2 < best[2]) best[2] = t3 - t2;
+    if (code != 0 || length != size || memcmp(out, expected, size) != 0) {
+        printf("wrong: %s configuration %d: code %d at %zu\n", types[type].word, configuration, code, position);
+        exit(1);
     }
     printf("| %-15s | %s | %d | %2d | %6lld | %7.2f | %7.2f | %7.2f | %5.2f | %5.2f |\n", types[type].word, low_first == asked_low ? "same    " : "reversed", n,
            configuration, offset, best[0], best[1], best[2], best[2] / best[0], best[2] / best[1]);
