@@ -11,7 +11,7 @@ use contract.Monad.{Fun, fact, factI, fact-mono, fact-use}
 use denote.Ref.{now}
 use denote.Triple.Clauses.{Ended, AtExit, Clauses}
 use denote.Triple.Entry.{Args, Res}
-use Rattle.edf.specs.Calls.{Open, Find, WholeNumber, Text, Escape, Unescape, Describe, ReadArray, ReadPixel, Write}
+use Rattle.edf.specs.Calls.{Open, Find, WholeNumber, Text, Escape, Unescape, Describe, ReadArray, ReadPixel, Write, Lists}
 use Rattle.edf.proofs.open as open′
 use Rattle.edf.proofs.find as find
 use Rattle.edf.proofs.whole_number as whole-number
@@ -22,6 +22,7 @@ use Rattle.edf.proofs.describe as describe
 use Rattle.edf.proofs.read_array as read-array
 use Rattle.edf.proofs.read_pixel as read-pixel
 use Rattle.edf.proofs.write as write
+use Rattle.edf.proofs.list as list
 
 -- Two facts give a third.
 both : {M : Type 1} (𝓤 : URA M) {φ ψ χ : Type 0} → (φ → ψ → χ) → ent 𝓤 (sep 𝓤 (fact 𝓤 φ) (fact 𝓤 ψ)) (fact 𝓤 χ)
@@ -71,3 +72,6 @@ module _ {M : Type 1} (𝓤 : URA M) (H : Heap 𝓤) (A : Atoms 𝓤) (mem : Mem
   pub writes : Gives write.ended (write.clauses 𝓤 H A mem run)
       (λ κs a r e. Write (a .0) (now (a .1 .0)) (now (a .1 .1 .0)) (now (a .1 .1 .1 .0)) r (now (e .1 .1 .1 .0)))
   writes κs a g r e = both 𝓤 (λ x y. record { answers = x; leaves = y })
+
+  pub lists : Gives list.ended (list.clauses 𝓤 H A mem run) (λ κs a r e. Lists (now (a .0)) (now (a .1 .0)) r (now (e .1 .0)))
+  lists κs a g r e = both 𝓤 (λ x y. record { answers = x; leaves = y })

@@ -5,7 +5,7 @@ use mathlib.Core.List.{List}
 use Prim.Native.Nat.{ℕ}
 use lib.ListN.{length}
 use Rattle.scan.specs.Buffer.{lengthWritten, bufferAfter}
-use Rattle.scan.specs.Outcome.{Outcome}
+use Rattle.scan.specs.Outcome.{Outcome, ok}
 use Rattle.text.specs.Answers.{writtenOutcome}
 use Rattle.text.specs.Text.{escaped, unescaped}
 use Rattle.text.specs.declared.Written.{Written}
@@ -24,6 +24,7 @@ use Rattle.array.specs.declared.Described.{Described}
 use Rattle.array.specs.declared.Sampled.{Sampled}
 use Rattle.writer.specs.File.{writtenFile}
 use Rattle.writer.specs.declared.Frame.{Frame}
+use Rattle.listing.specs.Listing.{listing}
 
 -- A call that is to write what a definition gives, into a lent buffer that held `before`: it answers r and leaves `after`.
 pub record IntoBuffer (o : Outcome (List ℕ)) (before : List ℕ) (r : Written) (after : List ℕ) : Type 0 where
@@ -71,3 +72,7 @@ pub record ReadPixel (file : List ℕ) (block i1 i2 i3 : ℕ) (r : Sampled) : Ty
 -- write(frame, title, pixels, out)
 abbrev pub Write : Frame → List ℕ → List ℕ → List ℕ → Written → List ℕ → Type 0
 Write frame title pixels = IntoBuffer (writtenFile frame title pixels)
+
+-- list(file, out)
+abbrev pub Lists : List ℕ → List ℕ → Written → List ℕ → Type 0
+Lists file = IntoBuffer (ok (listing file))

@@ -14,6 +14,7 @@ ghost use mathlib.Core.Path.{_≡_};
 ghost use lib.ListN.{length};
 ghost use Rattle.scan.specs.Buffer.{lengthWritten, bufferAfter};
 ghost use Rattle.scan.specs.Byte.{partOf};
+ghost use Rattle.scan.specs.Outcome.{ok};
 ghost use Rattle.text.specs.Answers.{writtenOutcome};
 ghost use Rattle.text.specs.Text.{escaped, unescaped};
 ghost use Rattle.blocks.specs.Answers.{openedOutcome};
@@ -24,6 +25,7 @@ ghost use Rattle.array.specs.Answers.{describedOutcome, sampledOutcome};
 ghost use Rattle.array.specs.Delivery.{arrayIn, pixelIn};
 ghost use Rattle.array.specs.Describe.{descriptionOf};
 ghost use Rattle.writer.specs.File.{writtenFile};
+ghost use Rattle.listing.specs.Listing.{listing};
 ghost use Rattle.edf.specs.Opening.{OpensAs};
 
 // Opens a file into a lent table of at least 256 rows: answers the number of its blocks, and puts the row of each into the table, in
@@ -127,4 +129,13 @@ pub fn write(frame: Frame, title: &[u8], pixels: &[u8], out: &mut [u8]) -> Writt
     ensures { λ _. ⌜ now (out .exit) ≡ bufferAfter (writtenFile frame (now (title .entry)) (now (pixels .entry))) (now (out .entry)) ⌝ }
 {
     writer::file::write(frame, title, pixels, out)
+}
+
+// What the lister prints of a file, at the front of the lent buffer: how many bytes. A file that does not open has a listing too, of
+// one line. 75,292 bytes are always enough; error 22, in which the buffer is untouched: buffer too small.
+pub fn list(file: &[u8], out: &mut [u8]) -> Written
+    ensures { λ r. ⌜ writtenOutcome r ≡ lengthWritten (ok (listing (now (file .entry)))) (now (out .entry)) ⌝ }
+    ensures { λ _. ⌜ now (out .exit) ≡ bufferAfter (ok (listing (now (file .entry)))) (now (out .entry)) ⌝ }
+{
+    listing::list::list(file, out)
 }

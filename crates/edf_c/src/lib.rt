@@ -9,6 +9,7 @@ use blocks::Opened;
 use keyword::Located;
 use keyword::Number;
 use raster::Pixel;
+use scan::Span;
 use text::Written;
 use writer::Frame;
 ghost use mathlib.Core.Path.{_≡_};
@@ -16,12 +17,14 @@ ghost use Prim.Native.Nat.{_/_};
 ghost use lib.ListN.{length};
 ghost use Rattle.scan.specs.Buffer.{lengthWritten, bufferAfter};
 ghost use Rattle.scan.specs.Byte.{partOf};
+ghost use Rattle.scan.specs.Outcome.{ok};
 ghost use Rattle.text.specs.Text.{escaped, unescaped};
 ghost use Rattle.blocks.specs.Opening.{openedInto, countOf};
 ghost use Rattle.keyword.specs.Keyword.{found, valueFound, wholeNumberOf, textIn};
 ghost use Rattle.array.specs.Describe.{descriptionOf};
 ghost use Rattle.array.specs.Delivery.{arrayIn, pixelIn};
 ghost use Rattle.writer.specs.File.{writtenFile};
+ghost use Rattle.listing.specs.Listing.{listing};
 ghost use Rattle.edf_c.specs.Answers.{codeOf, valueAfter, positionAfter, withValue};
 ghost use Rattle.edf_c.specs.Fields.{frameOf, fieldsOf, spanOf};
 ghost use Rattle.edf_c.specs.Samples.{sampleOf, sampleAfter};
@@ -352,4 +355,42 @@ pub extern "C" fn edf_open(
             e.code
         }
     }
+}
+
+// What the lister prints of a file, at the front of the lent buffer: `edf::list`.
+#[no_mangle]
+pub extern "C" fn edf_list(
+    file: &[u8],
+    out: &mut [u8],
+    length: &mut usize,
+    position: &mut usize,
+) -> u8
+    ensures { λ r. ⌜ r ≡ codeOf (lengthWritten (ok (listing (now (file .entry)))) (now (out .entry))) ⌝ }
+    ensures { λ _. ⌜ now (length .exit) ≡ valueAfter (lengthWritten (ok (listing (now (file .entry)))) (now (out .entry))) (now (length .entry)) ⌝ }
+    ensures { λ _. ⌜ now (position .exit) ≡ positionAfter (lengthWritten (ok (listing (now (file .entry)))) (now (out .entry))) (now (position .entry)) ⌝ }
+    ensures { λ _. ⌜ now (out .exit) ≡ bufferAfter (ok (listing (now (file .entry)))) (now (out .entry)) ⌝ }
+{
+    match edf::list(file, out) {
+        Written::Length(n) => {
+            *length = n;
+            0
+        }
+        Written::Failed(e) => {
+            *position = e.position;
+            e.code
+        }
+    }
+}
+
+// How long the part of the file at a span is: `edf::part`, which starts at the offset. 0 where the span does not lie inside.
+#[no_mangle]
+pub extern "C" fn edf_part(file: &[u8], offset: usize, size: usize) -> usize
+    ensures { λ r. ⌜ r ≡ length (partOf (now (file .entry)) (spanOf offset size)) ⌝ }
+{
+    let p = Span {
+        offset: offset,
+        length: size,
+    };
+    let bytes = edf::part(file, p);
+    bytes.len()
 }

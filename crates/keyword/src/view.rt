@@ -24,7 +24,7 @@ fn shares(kind: u8, first: u8) -> bool
 }
 
 // The block of a row, in a file with this first row. The statements of its header were checked when the file was opened.
-fn view_row(file: &[u8], first: Row, row: Row) -> Viewed
+pub fn view_row(file: &[u8], first: Row, row: Row) -> Viewed
     ensures { λ r. ⌜ viewedOutcome (now (file .entry)) r ≡ rowView (now (file .entry)) first row ⌝ }
 {
     let start = row.start;

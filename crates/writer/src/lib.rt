@@ -8,6 +8,7 @@ pub mod file;
 pub mod heading;
 pub mod lines;
 pub mod order;
+pub mod words;
 
 // What to write: the identity, the codes of the data type (1 to 10) and the byte order (1 or 2) as in a description, the number
 // of dimensions, the dimensions (those past `n` are not read), and the raster configuration.

@@ -1,16 +1,17 @@
 // The lines of a header, appended to a buffer. Each function answers the offset after what it appends.
 use crate::append::append;
-use crate::append::append_decimal;
 use crate::append::append_natural;
-use text::signed;
+use crate::words::append_identity;
+use crate::words::append_order;
+use crate::words::append_type;
 ghost use mathlib.Core.Path.{_≡_};
 ghost use mathlib.Core.List.{[], _∷_};
 ghost use Prim.Native.Nat.{_+_, _-_, _≤_, _<_, _^_};
 ghost use lib.IntN.{pos};
-ghost use lib.ListN.{length, take, drop, getD};
+ghost use lib.ListN.{length, take, getD};
 ghost use Rattle.scan.specs.Byte.{ascii};
 ghost use Rattle.text.specs.Decimal as text;
-ghost use Rattle.blocks.specs.IdentityText.{isOne, instanceWord, memoryText, identityText};
+ghost use Rattle.blocks.specs.IdentityText.{identityText};
 ghost use Rattle.raster.specs.Types.{typeOf, orderWords};
 ghost use Rattle.writer.specs.Append.{Appended};
 ghost use Rattle.writer.specs.File.{dimKeywords};
@@ -39,63 +40,15 @@ pub fn number_line(key: &[u8], n: usize, out: &mut [u8], at: usize) -> usize
     put_line(key, &digits[..end], out, at)
 }
 
-// ---- The identity
-
-fn is_one(memory: i64) -> bool
-    ensures { λ r. ⌜ r ≡ isOne memory ⌝ }
-{
-    let p = signed::apart(memory);
-    match p {
-        signed::Parts::Up(n) => n == 1,
-        signed::Parts::Down(_) => false,
-    }
-}
-
-fn append_instance(instance: u8, out: &mut [u8], at: usize) -> usize
-    requires { ⌜ at + 5 ≤ length (now out) ⌝ }
-    ensures { λ r. ⌜ Appended (instanceWord instance) at (now (out .entry)) (now (out .exit)) r ⌝ }
-    ensures { λ r. ⌜ r ≤ at + 5 ⌝ }
-{
-    if instance == 1 {
-        return append(b"Psd", out, at);
-    }
-    append(b"Error", out, at)
-}
-
-fn append_memory(memory: i64, out: &mut [u8], at: usize) -> usize
-    requires { ⌜ at + 21 ≤ length (now out) ⌝ }
-    ensures { λ r. ⌜ Appended (memoryText memory) at (now (out .entry)) (now (out .exit)) r ⌝ }
-    ensures { λ r. ⌜ r ≤ at + 21 ⌝ }
-{
-    if is_one(memory) {
-        return at;
-    }
-    let next = append(b".", out, at);
-    append_decimal(memory, out, next)
-}
-
-fn append_identity(sequence: i64, instance: u8, memory: i64, out: &mut [u8]) -> usize
-    requires { ⌜ 53 ≤ length (now out) ⌝ }
-    ensures { λ r. ⌜ Appended (identityText sequence instance memory) 0 (now (out .entry)) (now (out .exit)) r ⌝ }
-    ensures { λ r. ⌜ r ≤ 53 ⌝ }
-{
-    let a = append_decimal(sequence, out, 0);
-    let b = append(b".Image.", out, a);
-    let c = append_instance(instance, out, b);
-    append_memory(memory, out, c)
-}
-
 pub fn identity_line(sequence: i64, instance: u8, memory: i64, out: &mut [u8], at: usize) -> usize
     requires { ⌜ at + 75 ≤ length (now out) ⌝ }
     ensures { λ r. ⌜ Appended (line (keyword (ascii "EDF_DataBlockID") (identityText sequence instance memory))) at (now (out .entry)) (now (out .exit)) r ⌝ }
     ensures { λ r. ⌜ r ≤ at + 75 ⌝ }
 {
     let mut text = [0u8; 53];
-    let end = append_identity(sequence, instance, memory, &mut text);
+    let end = append_identity(sequence, instance, memory, &mut text, 0);
     put_line(b"EDF_DataBlockID", &text[..end], out, at)
 }
-
-// ---- The array
 
 pub fn order_line(byteorder: u8, out: &mut [u8], at: usize) -> usize
     requires { ⌜ (1 ≤ byteorder) × (byteorder ≤ 2) ⌝ }
@@ -103,23 +56,9 @@ pub fn order_line(byteorder: u8, out: &mut [u8], at: usize) -> usize
     ensures { λ r. ⌜ Appended (line (keyword (ascii "ByteOrder") (getD orderWords (byteorder - 1) []))) at (now (out .entry)) (now (out .exit)) r ⌝ }
     ensures { λ r. ⌜ r ≤ at + 29 ⌝ }
 {
-    if byteorder == 1 {
-        return put_line(b"ByteOrder", b"HighByteFirst", out, at);
-    }
-    put_line(b"ByteOrder", b"LowByteFirst", out, at)
-}
-
-// Where the word of each type starts in the row of all words, and where the last one ends.
-const TYPE_STARTS: [usize; 11] = [0, 12, 22, 35, 46, 61, 74, 85, 95, 103, 114];
-
-// The line of a part of `words`.
-fn word_line(words: &[u8], start: usize, end: usize, out: &mut [u8], at: usize) -> usize
-    requires { ⌜ (start ≤ end) × (end ≤ start + 15) × (end ≤ length (now words)) ⌝ }
-    requires { ⌜ at + 30 ≤ length (now out) ⌝ }
-    ensures { λ r. ⌜ Appended (line (keyword (ascii "DataType") (take (end - start) (drop start (now (words .entry)))))) at (now (out .entry)) (now (out .exit)) r ⌝ }
-    ensures { λ r. ⌜ r ≤ at + 30 ⌝ }
-{
-    put_line(b"DataType", &words[start..end], out, at)
+    let mut text = [0u8; 13];
+    let end = append_order(byteorder, &mut text, 0);
+    put_line(b"ByteOrder", &text[..end], out, at)
 }
 
 pub fn type_line(datatype: u8, out: &mut [u8], at: usize) -> usize
@@ -128,16 +67,9 @@ pub fn type_line(datatype: u8, out: &mut [u8], at: usize) -> usize
     ensures { λ r. ⌜ Appended (line (keyword (ascii "DataType") (typeOf datatype .word))) at (now (out .entry)) (now (out .exit)) r ⌝ }
     ensures { λ r. ⌜ r ≤ at + 30 ⌝ }
 {
-    let code = datatype as usize;
-    let start = TYPE_STARTS[code - 1];
-    let end = TYPE_STARTS[code];
-    word_line(
-        b"UnsignedByteSignedByteUnsignedShortSignedShortUnsignedIntegerSignedIntegerFloatIEEE32Unsigned64Signed64FloatIEEE64",
-        start,
-        end,
-        out,
-        at,
-    )
+    let mut text = [0u8; 15];
+    let end = append_type(datatype, &mut text, 0);
+    put_line(b"DataType", &text[..end], out, at)
 }
 
 // The lines of the first n dimensions.

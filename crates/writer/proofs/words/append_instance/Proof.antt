@@ -1,10 +1,10 @@
--- `writer::lines::append_instance` meets its contract.
+-- `writer::words::append_instance` meets its contract.
 use borrow.Author.Needs.{needs}
 use Rattle.writer.proofs.Appending.{appended-is}
 use Rattle.writer.proofs.LineLaws.{instance-psd, instance-error}
 use native.Mathlib.Omega.{arith}
-use Rattle.writer.proofs.lines.append_instance.Statement.{statement}
-use Rattle.writer.proofs.lines.append_instance.Tie as tie
+use Rattle.writer.proofs.words.append_instance.Statement.{statement}
+use Rattle.writer.proofs.words.append_instance.Tie as tie
 
 slice-aggregate-append : tie.Need-slice-aggregate-append
 slice-aggregate-append c = search needs

@@ -1,4 +1,4 @@
--- `writer::lines::append_memory` meets its contract.
+-- `writer::words::append_memory` meets its contract.
 use borrow.Author.Needs.{needs}
 use Rattle.writer.proofs.Appending.{appended-then, appended-is, appended-nothing}
 use Rattle.writer.proofs.LineLaws.{memory-left-out, memory-written}
@@ -7,8 +7,8 @@ use mathlib.Core.Path.{sym, ap, _∙_}
 use mir.Syntax.{w64}
 use mir.ValLaws.{toZ-ofZ}
 use Rattle.blocks.specs.IdentityText.{memoryText}
-use Rattle.writer.proofs.lines.append_memory.Statement.{statement}
-use Rattle.writer.proofs.lines.append_memory.Tie as tie
+use Rattle.writer.proofs.words.append_memory.Statement.{statement}
+use Rattle.writer.proofs.words.append_memory.Tie as tie
 
 is-one-requires : tie.Need-is-one-requires
 is-one-requires c κs = search needs

@@ -1,4 +1,4 @@
--- `writer::lines::append_identity` meets its contract.
+-- `writer::words::append_identity` meets its contract.
 use borrow.Author.Needs.{needs}
 use Rattle.writer.proofs.Appending.{appended-then, appended-is}
 use Rattle.writer.proofs.LineLaws.{identity-is}
@@ -7,8 +7,8 @@ use mathlib.Core.Path.{_∙_}
 use mir.Syntax.{w64}
 use mir.ValLaws.{toZ-ofZ}
 use Rattle.blocks.specs.IdentityText.{identityText}
-use Rattle.writer.proofs.lines.append_identity.Statement.{statement}
-use Rattle.writer.proofs.lines.append_identity.Tie as tie
+use Rattle.writer.proofs.words.append_identity.Statement.{statement}
+use Rattle.writer.proofs.words.append_identity.Tie as tie
 
 append-decimal-requires : tie.Need-append-decimal-requires
 append-decimal-requires c κs = search needs

@@ -1,9 +1,9 @@
--- `writer::lines::is_one` meets its contract.
+-- `writer::words::is_one` meets its contract.
 use borrow.Author.Needs.{needs}
 use Rattle.writer.proofs.LineLaws.{one-up, one-down}
 use Rattle.text.proofs.Signs.{held}
-use Rattle.writer.proofs.lines.is_one.Statement.{statement}
-use Rattle.writer.proofs.lines.is_one.Tie as tie
+use Rattle.writer.proofs.words.is_one.Statement.{statement}
+use Rattle.writer.proofs.words.is_one.Tie as tie
 
 apart-requires : tie.Need-apart-requires
 apart-requires c κs = search needs

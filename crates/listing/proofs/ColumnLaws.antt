@@ -1,0 +1,122 @@
+-- Columns and lines, piece by piece.
+use mathlib.Core.Path.{_≡_, refl, sym, ap, _∙_}
+use mathlib.Core.Bool.{true, false}
+use mathlib.Core.List.{List, [], _∷_, _++_, append-assoc, append-nil}
+use Prim.Native.Nat.{ℕ, _-_}
+use borrow.Author.Tests.{eq-eqb, ne-eqb}
+use lib.ListN.{length, take, getD}
+use Rattle.scan.specs.Byte.{ascii}
+use Rattle.scan.specs.Outcome.{Outcome, ok, failed}
+use Rattle.scan.specs.declared.Error.{Error}
+use Rattle.text.specs.Decimal.{decimal}
+use Rattle.blocks.specs.IdentityText.{identityText}
+use Rattle.blocks.specs.declared.Row.{Row}
+use Rattle.raster.specs.Types.{orderWords}
+use Rattle.array.specs.Delivery.{arrayType, arrayDims}
+use Rattle.array.specs.Describe.{descriptionOf}
+use Rattle.array.specs.declared.Description.{Description}
+use Rattle.listing.specs.Listing.{number, after, line, identityOf, dimsText, arrayColumns, errorColumns, descriptionColumns, details, rowColumns, blockLine, refusedLine, countLine}
+
+-- ---- Pieces after a separator
+
+module _ (b : ℕ) where
+  pub after-both : (xs ys : List (List ℕ)) → after b xs ++ after b ys ≡ after b (xs ++ ys)
+  unfolding after
+  after-both [] ys = refl
+  after-both (x ∷ xs) ys =
+      append-assoc (b ∷ x) (after b xs) (after b ys) ∙ ap (λ (l : List ℕ). (b ∷ x) ++ l) (after-both xs ys)
+
+  module _ (x y z : List ℕ) where
+    pub after-two : (b ∷ x) ++ (b ∷ y) ≡ after b (x ∷ y ∷ [])
+    unfolding after
+    after-two = simp append-nil
+
+    pub after-three : ((b ∷ x) ++ (b ∷ y)) ++ (b ∷ z) ≡ after b (x ∷ y ∷ z ∷ [])
+    unfolding after
+    after-three = simp (append-assoc, append-nil)
+
+-- ---- The columns of an array
+
+pub words-are : (t o : List ℕ) → ((32 ∷ t) ++ (32 ∷ [])) ++ o ≡ after 32 (t ∷ o ∷ [])
+words-are t o = append-assoc (32 ∷ t) (32 ∷ []) o ∙ after-two 32 t o []
+
+module _ (a b c : ℕ) where
+  pub one-dim : (n : ℕ) → n ≡ 1 → 32 ∷ number a ≡ 32 ∷ dimsText (take n (a ∷ b ∷ c ∷ []))
+  unfolding dimsText after
+  one-dim n e = rw e (simp append-nil)
+
+  pub two-dims : (n : ℕ) → n ≡ 2 → (32 ∷ number a) ++ (120 ∷ number b) ≡ 32 ∷ dimsText (take n (a ∷ b ∷ c ∷ []))
+  unfolding dimsText after
+  two-dims n e = rw e (simp append-nil)
+
+  pub three-dims : (n : ℕ) → n ≡ 3
+      → ((32 ∷ number a) ++ (120 ∷ number b)) ++ (120 ∷ number c) ≡ 32 ∷ dimsText (take n (a ∷ b ∷ c ∷ []))
+  unfolding dimsText after
+  three-dims n e = rw e (simp (append-assoc, append-nil))
+
+pub array-is : (d : Description)
+    → (after 32 (arrayType d .word ∷ getD orderWords (d .byteorder - 1) [] ∷ []) ++ (32 ∷ dimsText (arrayDims d)))
+    ++ after 32 (number (d .configuration) ∷ number (d .orientation) ∷ decimal (d .offset) ∷ []) ≡ after 32 (arrayColumns d)
+unfolding arrayColumns after
+array-is d =
+    let words = arrayType d .word ∷ getD orderWords (d .byteorder - 1) [] ∷ [] in
+    let numbers = number (d .configuration) ∷ number (d .orientation) ∷ decimal (d .offset) ∷ [] in
+    append-assoc (after 32 words) (32 ∷ dimsText (arrayDims d)) (after 32 numbers) ∙ after-both 32 words (dimsText (arrayDims d) ∷ numbers)
+
+-- ---- The columns of a block
+
+pub error-is : (e : Error) → (32 ∷ number (e .code)) ++ (32 ∷ number (e .position)) ≡ after 32 (errorColumns e)
+unfolding errorColumns
+error-is e = after-two 32 (number (e .code)) (number (e .position)) []
+
+pub refused-is : (e : Error) → ascii " refused" ++ after 32 (errorColumns e) ≡ after 32 (descriptionColumns (failed e))
+unfolding after descriptionColumns
+refused-is e = refl
+
+module _ (row : Row) where
+  pub name-general : row .kind ≡ 0 → ascii "general" ≡ identityOf row
+  unfolding identityOf
+  name-general e = rw (eq-eqb (row .kind) 0 e)
+
+  module _ (k : row .kind ≡ 0 → ⊥) where
+    pub name-none : row .instance ≡ 0 → ascii "-" ≡ identityOf row
+    unfolding identityOf
+    name-none e = rw (ne-eqb (row .kind) 0 k, eq-eqb (row .instance) 0 e)
+
+    pub name-identity : (row .instance ≡ 0 → ⊥) → identityText (row .sequence) (row .instance) (row .memory) ≡ identityOf row
+    unfolding identityOf
+    name-identity e = rw (ne-eqb (row .kind) 0 k, ne-eqb (row .instance) 0 e)
+
+    -- "nothing after `general`"
+    pub details-are : (o : Outcome Description) → after 32 (descriptionColumns o) ≡ after 32 (details row o)
+    unfolding details
+    details-are o = rw (ne-eqb (row .kind) 0 k)
+
+  pub no-details : row .kind ≡ 0 → (o : Outcome Description) → [] ≡ after 32 (details row o)
+  unfolding details after
+  no-details e o = rw (eq-eqb (row .kind) 0 e)
+
+  pub row-is : (n : List ℕ)
+      → (((n ++ (32 ∷ number (row .start))) ++ (32 ∷ number (row .header))) ++ (32 ∷ number (row .size))) ++ (32 ∷ identityOf row)
+      ≡ n ++ after 32 (rowColumns row)
+  unfolding rowColumns after
+  row-is n = simp (append-assoc, append-nil)
+
+-- ---- Lines
+
+pub line-is : (first : List ℕ) (xs ys : List (List ℕ)) → ((first ++ after 32 xs) ++ after 32 ys) ++ ascii "\n" ≡ line first (xs ++ ys)
+unfolding line
+line-is first xs ys = rw (append-assoc first (after 32 xs) (after 32 ys), after-both 32 xs ys, append-assoc first (after 32 (xs ++ ys)) (ascii "\n"))
+
+pub block-line-is : (s : List ℕ) (k : ℕ) (row : Row) {o : Outcome Description} → o ≡ descriptionOf s k
+    → ((number k ++ after 32 (rowColumns row)) ++ after 32 (details row o)) ++ ascii "\n" ≡ blockLine s k row
+unfolding blockLine
+block-line-is s k row {o} e = rw (sym e) (line-is (number k) (rowColumns row) (details row o))
+
+pub refused-line-is : (e : Error) → (ascii "refused" ++ after 32 (errorColumns e)) ++ ascii "\n" ≡ refusedLine e
+unfolding refusedLine line
+refused-line-is e = append-assoc (ascii "refused") (after 32 (errorColumns e)) (ascii "\n")
+
+pub count-line-is : (n : ℕ) → (ascii "blocks" ++ (32 ∷ number n)) ++ ascii "\n" ≡ countLine n
+unfolding countLine line after
+count-line-is n = simp (append-assoc, append-nil)

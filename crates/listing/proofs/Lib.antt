@@ -1,0 +1,4 @@
+pub mod ColumnLaws
+pub mod Listed
+pub mod Positions
+pub mod RowLaws
