@@ -74,4 +74,4 @@ module _ {M : Type 1} (𝓤 : URA M) (H : Heap 𝓤) (A : Atoms 𝓤) (mem : Mem
   writes κs a g r e = both 𝓤 (λ x y. record { answers = x; leaves = y })
 
   pub lists : Gives list.ended (list.clauses 𝓤 H A mem run) (λ κs a r e. Lists (now (a .0)) (now (a .1 .0)) r (now (e .1 .0)))
-  lists κs a g r e = both 𝓤 (λ x y. record { answers = x; leaves = y })
+  lists κs a g r e = both 𝓤 (λ x y. record { writes = record { answers = x .0; leaves = y }; fits = x .1 })

@@ -1,13 +1,16 @@
 -- The main theorems about the public calls. `Write`, `Open` and the others of specs/Calls are the contracts of the calls of these
 -- names (Contracts, beside this file), so `Open file before r after` is any call of `open` on `file`, whose table held `before`, that
 -- answers r and leaves `after`.
-use mathlib.Core.Path.{_≡_, refl, sym, _∙_}
+use mathlib.Core.Path.{_≡_, refl, sym, ap, _∙_}
 use mathlib.Core.List.{List, [], _∷_, _++_}
 use Prim.Native.Nat.{ℕ, _+_, _*_, _≤_, _<_}
+use native.Mathlib.Omega.{arith}
+use lib.IntN.{pos}
 use lib.ListN.{length, take, drop}
 use Rattle.scan.specs.Byte.{ascii}
 use Rattle.scan.specs.Outcome.{Outcome, ok}
 use Rattle.scan.specs.declared.Error.{Error}
+use Rattle.text.specs.Decimal.{decimal}
 use Rattle.text.specs.Text.{escaped}
 use Rattle.text.specs.declared.Written.{Written}
 use Rattle.text.specs.declared.Written.the-variants.{Length, Failed}
@@ -36,7 +39,9 @@ use Rattle.writer.proofs.Described.{descriptionFor}
 use Rattle.writer.proofs.Main as writer
 use Rattle.writer.proofs.Pixels.{Inside, positionIn, pixel}
 use Rattle.writer.proofs.Written.{Fits, rowOf}
-use Rattle.edf.specs.Calls.{IntoBuffer, Open, Find, WholeNumber, Text, Escape, Unescape, Describe, ReadArray, ReadPixel, Write}
+use Rattle.listing.specs.Listing.{line, arrayColumns, rowColumns, countLine, listing}
+use Rattle.listing.proofs.OneBlock.{one-block-listing}
+use Rattle.edf.specs.Calls.{IntoBuffer, Open, Find, WholeNumber, Text, Escape, Unescape, Describe, ReadArray, ReadPixel, Write, Lists}
 use Rattle.edf.proofs.CallLaws.{opened-by, located-by, number-by, described-by, sampled-by}
 use Rattle.edf.proofs.CallLaws.{with-room, wrote, kept, refused-by, same-written, unescaped-back, delivered-length, delivered-pixel}
 use Rattle.edf.proofs.CallLaws.{opens-rows, file-small, not-found, no-number, no-text, no-description, array-refused, pixel-refused}
@@ -99,6 +104,16 @@ module _ (f : Frame) (title pixels before after : List ℕ) (n : ℕ) (fits : Fi
       r ≡ sampled.Value (pixelOf (frameType f .class) (frameType f .width) (numberOf 1 bytes))
   pixel-reads {i1} {i2} {i3} {r} octets h c = sampled-by r (c .answers ∙ writer.samples f title pixels fits written octets i1 i2 i3 h)
 
+  -- What `list` prints of it: one block, the row and the description.
+  abbrev listed : List ℕ
+  listed = countLine 1 ++ line (decimal (pos 0)) (rowColumns (rowOf f title pixels) ++ arrayColumns (descriptionFor f))
+
+  pub lists : {room left : List ℕ} {r : Written} → length listed ≤ length room → Lists file room r left
+      → (r ≡ Length (length listed)) × (left ≡ listed ++ drop (length listed) room)
+  lists h c =
+      let d = writer.describes f title pixels fits written in
+      with-room (ap ok (one-block-listing file (rowOf f title pixels) (descriptionFor f) one-block (file-small allowed) refl d)) h (c .writes)
+
 -- ---- Text in value form reads back
 
 pub text-back : (text : List ℕ) {before after : List ℕ} {n : ℕ} → Escape text before (Length n) after
@@ -123,9 +138,16 @@ module _ (s : List ℕ) (block order : ℕ) (d : Description) (before after : Li
   pixel-of-array {i1} {i2} {i3} {r} octets h1 h2 h3 c =
       sampled-by r (c .answers ∙ delivered-pixel s block order describe read octets i1 i2 i3 h1 h2 h3)
 
+-- ---- Every file has a listing
+
+-- `list` writes it, and its length, into every buffer of 75,292 bytes or more.
+pub list-writes : {s before after : List ℕ} {r : Written} → 75292 ≤ length before → Lists s before r after
+    → (r ≡ Length (length (listing s))) × (after ≡ listing s ++ drop (length (listing s)) before)
+list-writes h c = with-room refl (omega (arith, c .fits)) (c .writes)
+
 -- ---- Errors
 
--- In an error of `text`, `escape`, `unescape`, `read_array` or `write` the lent buffer is as before; in one of `open` the table is.
+-- In an error of `text`, `escape`, `unescape`, `read_array`, `write` or `list` the lent buffer is as before; in one of `open` the table is.
 pub buffer-untouched : (o : Outcome (List ℕ)) {before after : List ℕ} {x : Error} → IntoBuffer o before (Failed x) after → after ≡ before
 buffer-untouched = kept
 

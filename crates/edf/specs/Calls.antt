@@ -24,7 +24,7 @@ use Rattle.array.specs.declared.Described.{Described}
 use Rattle.array.specs.declared.Sampled.{Sampled}
 use Rattle.writer.specs.File.{writtenFile}
 use Rattle.writer.specs.declared.Frame.{Frame}
-use Rattle.listing.specs.Listing.{listing}
+use Rattle.listing.specs.Listing.{listing, FitsListing}
 
 -- A call that is to write what a definition gives, into a lent buffer that held `before`: it answers r and leaves `after`.
 pub record IntoBuffer (o : Outcome (List ℕ)) (before : List ℕ) (r : Written) (after : List ℕ) : Type 0 where
@@ -74,5 +74,6 @@ abbrev pub Write : Frame → List ℕ → List ℕ → List ℕ → Written → 
 Write frame title pixels = IntoBuffer (writtenFile frame title pixels)
 
 -- list(file, out)
-abbrev pub Lists : List ℕ → List ℕ → Written → List ℕ → Type 0
-Lists file = IntoBuffer (ok (listing file))
+pub record Lists (file before : List ℕ) (r : Written) (after : List ℕ) : Type 0 where
+  pub writes : IntoBuffer (ok (listing file)) before r after
+  pub fits : FitsListing file

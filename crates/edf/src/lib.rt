@@ -25,7 +25,7 @@ ghost use Rattle.array.specs.Answers.{describedOutcome, sampledOutcome};
 ghost use Rattle.array.specs.Delivery.{arrayIn, pixelIn};
 ghost use Rattle.array.specs.Describe.{descriptionOf};
 ghost use Rattle.writer.specs.File.{writtenFile};
-ghost use Rattle.listing.specs.Listing.{listing};
+ghost use Rattle.listing.specs.Listing.{listing, FitsListing};
 ghost use Rattle.edf.specs.Opening.{OpensAs};
 
 // Opens a file into a lent table of at least 256 rows: answers the number of its blocks, and puts the row of each into the table, in
@@ -132,9 +132,9 @@ pub fn write(frame: Frame, title: &[u8], pixels: &[u8], out: &mut [u8]) -> Writt
 }
 
 // What the lister prints of a file, at the front of the lent buffer: how many bytes. A file that does not open has a listing too, of
-// one line. 75,292 bytes are always enough; error 22, in which the buffer is untouched: buffer too small.
+// one line. 75,292 bytes are enough for every file; error 22, in which the buffer is untouched: buffer too small.
 pub fn list(file: &[u8], out: &mut [u8]) -> Written
-    ensures { λ r. ⌜ writtenOutcome r ≡ lengthWritten (ok (listing (now (file .entry)))) (now (out .entry)) ⌝ }
+    ensures { λ r. ⌜ (writtenOutcome r ≡ lengthWritten (ok (listing (now (file .entry)))) (now (out .entry))) × FitsListing (now (file .entry)) ⌝ }
     ensures { λ _. ⌜ now (out .exit) ≡ bufferAfter (ok (listing (now (file .entry)))) (now (out .entry)) ⌝ }
 {
     listing::list::list(file, out)

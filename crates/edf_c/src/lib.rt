@@ -24,7 +24,7 @@ ghost use Rattle.keyword.specs.Keyword.{found, valueFound, wholeNumberOf, textI
 ghost use Rattle.array.specs.Describe.{descriptionOf};
 ghost use Rattle.array.specs.Delivery.{arrayIn, pixelIn};
 ghost use Rattle.writer.specs.File.{writtenFile};
-ghost use Rattle.listing.specs.Listing.{listing};
+ghost use Rattle.listing.specs.Listing.{listing, FitsListing};
 ghost use Rattle.edf_c.specs.Answers.{codeOf, valueAfter, positionAfter, withValue};
 ghost use Rattle.edf_c.specs.Fields.{frameOf, fieldsOf, spanOf};
 ghost use Rattle.edf_c.specs.Samples.{sampleOf, sampleAfter};
@@ -365,7 +365,7 @@ pub extern "C" fn edf_list(
     length: &mut usize,
     position: &mut usize,
 ) -> u8
-    ensures { λ r. ⌜ r ≡ codeOf (lengthWritten (ok (listing (now (file .entry)))) (now (out .entry))) ⌝ }
+    ensures { λ r. ⌜ (r ≡ codeOf (lengthWritten (ok (listing (now (file .entry)))) (now (out .entry)))) × FitsListing (now (file .entry)) ⌝ }
     ensures { λ _. ⌜ now (length .exit) ≡ valueAfter (lengthWritten (ok (listing (now (file .entry)))) (now (out .entry))) (now (length .entry)) ⌝ }
     ensures { λ _. ⌜ now (position .exit) ≡ positionAfter (lengthWritten (ok (listing (now (file .entry)))) (now (out .entry))) (now (position .entry)) ⌝ }
     ensures { λ _. ⌜ now (out .exit) ≡ bufferAfter (ok (listing (now (file .entry)))) (now (out .entry)) ⌝ }

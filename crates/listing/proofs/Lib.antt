@@ -1,4 +1,5 @@
 pub mod ColumnLaws
 pub mod Listed
+pub mod OneBlock
 pub mod Positions
 pub mod RowLaws

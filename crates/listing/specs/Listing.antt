@@ -1,7 +1,7 @@
 -- What the lister prints of a file (01, "The lister"): the text, for every list of bytes.
 use mathlib.Core.Bool.{cond}
 use mathlib.Core.List.{List, [], _∷_, _++_, map}
-use Prim.Native.Nat.{ℕ, suc, _-_}
+use Prim.Native.Nat.{ℕ, suc, _-_, _≤_}
 use lib.Dec.{eqb}
 use lib.IntN.{pos}
 use lib.ListN.{length, getD}
@@ -98,3 +98,7 @@ listingOf s (failed e) = refusedLine e
 
 unfoldable pub listing : List ℕ → List ℕ
 listing s = listingOf s (openedFile s)
+
+-- A buffer that has room for every listing: a first line of at most 28 bytes, and 256 lines of at most 294.
+abbrev pub FitsListing : List ℕ → Type 0
+FitsListing s = length (listing s) ≤ 75292

@@ -16,7 +16,7 @@ ghost use Rattle.scan.specs.Outcome.{ok};
 ghost use Rattle.text.specs.Answers.{writtenOutcome};
 ghost use Rattle.writer.specs.Append.{Appended};
 ghost use Rattle.listing.specs.Input.{inputListing};
-ghost use Rattle.listing.specs.Listing.{blockLines, listing};
+ghost use Rattle.listing.specs.Listing.{blockLines, listing, FitsListing};
 ghost use Rattle.listing.specs.Rows.{FileRows};
 
 // A line for each block of an opened file.
@@ -61,9 +61,10 @@ pub fn put_listing(file: &[u8], out: &mut [u8]) -> usize
     }
 }
 
-// The listing of a file at the front of the lent buffer: how many bytes. Error 22 where it has no room, and then it is untouched.
+// The listing of a file at the front of the lent buffer: how many bytes, at most 75,292. Error 22 where it has no room, and then it
+// is untouched.
 pub fn list(file: &[u8], out: &mut [u8]) -> Written
-    ensures { λ r. ⌜ writtenOutcome r ≡ lengthWritten (ok (listing (now (file .entry)))) (now (out .entry)) ⌝ }
+    ensures { λ r. ⌜ (writtenOutcome r ≡ lengthWritten (ok (listing (now (file .entry)))) (now (out .entry))) × FitsListing (now (file .entry)) ⌝ }
     ensures { λ _. ⌜ now (out .exit) ≡ bufferAfter (ok (listing (now (file .entry)))) (now (out .entry)) ⌝ }
 {
     let mut text = [0u8; 75292];

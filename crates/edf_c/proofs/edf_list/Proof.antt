@@ -18,14 +18,18 @@ same-length c = search needs
 
 returns : tie.Need-returns
 returns c =
-    writes _ _ _ _ _ (c .before .before .before .before .before .list .ensures) (c .before .n .given .1)
+    let e = c .before .before .before .before .before .list .ensures in
+    let w = writes _ _ _ _ _ (e .0 .0, e .1) (c .before .n .given .1) in
+    ((w .0, e .0 .1), w .1)
 
 same-length-2 : tie.Need-same-length-2
 same-length-2 c = search needs
 
 returns-2 : tie.Need-returns-2
 returns-2 c =
-    writes-none _ _ _ _ _ (c .before .before .before .before .before .list .ensures) (c .before .e .given .1)
+    let e = c .before .before .before .before .before .list .ensures in
+    let w = writes-none _ _ _ _ _ (e .0 .0, e .1) (c .before .e .given .1) in
+    ((w .0, e .0 .1), w .1)
 
 pub edf-list-spec : {M : Type 1} → statement M
 edf-list-spec =

@@ -32,8 +32,11 @@ same-length c = search needs
 returns : tie.Need-returns
 returns c =
     let w = c .before .before .write-bytes .ensures in
-    let e = front-is (c .before .before .before .before .before .before .put-listing .ensures) in
-    (w .0 ∙ ap (λ (l : List ℕ). lengthWritten (ok l) (c .before .before .before .before .before .before .before .before .before .before .args .out .now)) e, w .1 ∙ ap (λ (l : List ℕ). bufferAfter (ok l) (c .before .before .before .before .before .before .before .before .before .before .args .out .now)) e)
+    let p = c .before .before .before .before .before .before .put-listing .ensures in
+    let out = c .before .before .before .before .before .before .before .before .before .before .args .out .now in (
+      (w .0 ∙ ap (λ (l : List ℕ). lengthWritten (ok l) out) (front-is p), omega (arith, p .next-is, p .room)),
+      w .1 ∙ ap (λ (l : List ℕ). bufferAfter (ok l) out) (front-is p),
+    )
 
 pub list-spec : {M : Type 1} → statement M
 list-spec =
