@@ -4,10 +4,10 @@ use mathlib.Core.Logic.{inl, inr}
 use mathlib.Core.Bool.{Bool, true, false}
 use mathlib.Core.List.{List, [], _∷_, _++_, append-nil, reverse}
 use Prim.Native.Nat.{ℕ, zero, suc, _+_, _-_, _*_, _≤_, _<_}
-use native.Mathlib.Nat.{le-antisymm, zero-add, suc-add, mul-zero, mul-suc, zero-mul}
+use native.Mathlib.Nat.{le-antisymm, mul-zero, mul-suc, zero-mul}
 use native.Mathlib.Numerals.{add-one}
 use native.Mathlib.Omega.{arith}
-use lib.ListN.{length, take, drop, set, getD, length-append, length-take, length-drop, drop-of-length-le}
+use lib.ListN.{length, take, drop, set, getD, length-take, length-drop}
 use lib.Seq.{take-suc, take-add, getD-drop, drop-length, drop-drop}
 use Rattle.scan.specs.Buffer.{over}
 use Rattle.raster.specs.Bytes.{joined}

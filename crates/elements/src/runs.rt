@@ -1,5 +1,4 @@
-// Runs: elements that stand one after another. Sixteen bytes a turn, since the compiler does not know that file and buffer
-// lie apart, and joins only the bytes that are all read before one is written.
+// Runs: elements that stand one after another. They go sixteen bytes a turn, and what is left one element a turn.
 use crate::octets::get16;
 use crate::octets::put16;
 use crate::octets::reverse_each2;
@@ -37,8 +36,8 @@ fn bytes(src: &[u8], at: usize, out: &mut [u8])
     }
 }
 
-// The bytes from `at` on: elements that stand one after another. Sixteen at a time, since a loop over bytes is quick only
-// where the compiler can show, before the rows, that file and buffer lie apart.
+// The bytes from `at` on. Sixteen at a time, since a loop over bytes is quick only where the compiler can show, before the
+// rows, that file and buffer lie apart.
 pub fn run(src: &[u8], at: usize, out: &mut [u8])
     requires { ⌜ length (now out) ≤ length (now src) - at ⌝ }
     ensures { λ _. ⌜ now (out .exit) ≡ take (length (now (out .entry))) (drop at (now (src .entry))) ⌝ }
@@ -75,7 +74,7 @@ fn reversed_groups4(src: &[u8], at: usize, n: usize, out: &mut [u8])
     }
 }
 
-// A run with the bytes of each element reversed.
+// A run of elements of two bytes, and of four: the bytes of each reversed.
 pub fn reversed_run2(src: &[u8], at: usize, n: usize, out: &mut [u8])
     requires { ⌜ length (now out) ≤ length (now src) - at ⌝ }
     requires { ⌜ length (now out) ≡ 2 * n ⌝ }
