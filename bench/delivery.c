@@ -1,5 +1,6 @@
 // How long the delivery of an array takes, beside memcpy and beside plain C that does the same. One line for each case: the
-// times in ms, and the ratios. All of it in one run on the same buffers, which are touched first; the best of several turns.
+// times in ms, and the ratios. All of it in one run on the same buffers, which are touched first; the best of nine
+// turns or more (300 ms), each with all three, so that other work on the machine falls on all alike.
 #include <stdint.h>
 #include <stdio.h>
 #include <stdlib.h>
@@ -7,15 +8,16 @@
 #include <time.h>
 #include "edf.h"
 
+// Processor time in ms: what other processes take does not count.
 static double now(void) {
     struct timespec t;
-    clock_gettime(CLOCK_MONOTONIC, &t);
+    clock_gettime(CLOCK_THREAD_CPUTIME_ID, &t);
     return t.tv_sec * 1e3 + t.tv_nsec / 1e6;
 }
 
 // ---- Plain C, compiled apart (bench/plain.c)
 
-void plain(const uint8_t *in, uint8_t *out, int width, int is_signed, int reversed_in, int reversed_out, int64_t offset,
+void plain(const uint8_t *in, uint8_t *out, int width, int is_signed, int low_in, int low_out, int64_t offset,
            ptrdiff_t at, const ptrdiff_t step[3], const size_t dim[3]);
 
 // ---- The file
@@ -58,7 +60,7 @@ static void steps_of(int n, int number, const size_t dim[3], ptrdiff_t *at, ptrd
 
 // ---- One case
 
-enum { TURNS = 9 };
+enum { TURNS = 9, LEAST_MS = 300 };
 static uint8_t *file, *out, *expected;
 
 static void measure(int type, int low_first, int asked_low, int n, size_t d1, size_t d2, size_t d3, int configuration, long long offset) {
@@ -69,8 +71,9 @@ static void measure(int type, int low_first, int asked_low, int n, size_t d1, si
     double best[3] = {1e9, 1e9, 1e9};
     size_t length = 0, position = 0;
     uint8_t code = 0;
-    for (int what = 0; what < 3; what++)
-        for (int turn = 0; turn < TURNS; turn++) {
+    double start = now();
+    for (int turn = 0; turn < TURNS || now() < start + LEAST_MS; turn++)
+        for (int what = 0; what < 3; what++) {
             double t = now();
             if (what == 0) memcpy(out, file + head, size);
             if (what == 1) plain(file + head, expected, types[type].width, types[type].is_signed, low_first, asked_low, offset, at, step, dim);

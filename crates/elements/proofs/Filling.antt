@@ -1,11 +1,11 @@
 -- A buffer that is filled from its front, element by element or part by part.
 use mathlib.Core.Path.{_≡_, refl, sym, ap, subst, _∙_}
 use mathlib.Core.List.{List, [], _∷_, _++_, append-assoc, append-nil}
-use Prim.Native.Nat.{ℕ, zero, suc, _+_, _*_, _≤_, _<_}
+use Prim.Native.Nat.{ℕ, zero, suc, _+_, _-_, _*_, _≤_, _<_}
 use native.Mathlib.Nat.{not-suc-le-zero, le-of-suc-le-suc, le-antisymm, mul-zero, mul-suc, mul-le-mul-left}
 use native.Mathlib.Numerals.{add-one}
 use native.Mathlib.Omega.{arith}
-use lib.ListN.{length, take, drop, set, getD, length-append, length-take, drop-of-length-le}
+use lib.ListN.{length, take, drop, set, getD, length-append, length-take, length-drop, drop-of-length-le}
 use lib.Seq.{drop-drop, drop-cons, take-all, take-at, drop-at}
 use Rattle.scan.specs.Buffer.{over}
 use Rattle.raster.specs.Bytes.{joined}
@@ -102,6 +102,29 @@ over-part p q d l o k e n m =
     ∙ ap (λ (x : List ℕ). p ++ (q ++ x))
     (drop-drop k (length p) d ∙ ap (λ (j : ℕ). drop (length p + j) d) (sym m) ∙ ap (λ (j : ℕ). drop j d) (sym (length-append p q)))
     ∙ sym (append-assoc p q (drop (length (p ++ q)) d))
+
+-- A buffer in two parts, lent one after the other: h bytes from its front, and what is left.
+module _ (d p : List ℕ) (h : ℕ) (room : h ≤ length d) (first : length p ≡ h) where
+  -- The buffer with the first part written.
+  abbrev begun : List ℕ
+  begun = patched 0 (h - 0) d p
+
+  begun-is : begun ≡ over p d
+  begun-is = let e : h - 0 ≡ length p = omega arith in ap (λ (i : ℕ). p ++ drop i d) e
+
+  begun-length : length begun ≡ length d
+  begun-length = ap length begun-is ∙ simp (length-append, length-drop) (omega arith)
+
+  -- The length of the part that is lent then.
+  pub rest-length : length (take (length begun - h) (drop h begun)) ≡ length d - h
+  rest-length = let l = begun-length in simp (length-take, length-drop) (omega arith)
+
+  pub two-parts : (q : List ℕ) → length q ≡ length d - h → patched h (length begun - h) begun q ≡ p ++ q
+  two-parts q e =
+      let l = begun-length in
+      let w : length d ≤ length (p ++ q) = simp length-append (omega arith) in
+      over-part p q d begun h (length begun - h) begun-is first (omega arith)
+      ∙ ap (λ (x : List ℕ). (p ++ q) ++ x) (drop-of-length-le d {i = length (p ++ q)} w) ∙ append-nil (p ++ q)
 
 -- The buffer d, of which the first i pieces of n, of m bytes each, are written.
 module _ (f : ℕ → List ℕ) (m n : ℕ) (d : List ℕ) (wide : (j : ℕ) → j < n → length (f j) ≡ m) where

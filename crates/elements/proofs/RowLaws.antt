@@ -4,16 +4,16 @@ use mathlib.Core.Logic.{inl, inr}
 use mathlib.Core.Bool.{Bool, true, false}
 use mathlib.Core.List.{List, [], _∷_, _++_, append-nil, reverse}
 use Prim.Native.Nat.{ℕ, zero, suc, _+_, _-_, _*_, _≤_, _<_}
-use native.Mathlib.Nat.{le-antisymm, zero-add, suc-add, mul-zero, mul-suc, zero-mul}
+use native.Mathlib.Nat.{le-antisymm, mul-zero, mul-suc, zero-mul}
 use native.Mathlib.Numerals.{add-one}
 use native.Mathlib.Omega.{arith}
-use lib.ListN.{length, take, drop, set, getD, length-append, length-take, length-drop, drop-of-length-le}
-use lib.Seq.{take-suc, getD-drop, drop-length, drop-drop}
+use lib.ListN.{length, take, drop, set, getD, length-take, length-drop}
+use lib.Seq.{take-suc, take-add, getD-drop, drop-length, drop-drop}
 use Rattle.scan.specs.Buffer.{over}
 use Rattle.raster.specs.Bytes.{joined}
 use Rattle.raster.specs.Strided.{turned, patched, place, Inside, Width, rowOf}
 use Rattle.raster.proofs.RoundTrip.{length-turned}
-use Rattle.elements.proofs.Filling.{over-set, over-part, joined-same, length-joined, piece-more, pieces-done}
+use Rattle.elements.proofs.Filling.{over-set, joined-same, length-joined, piece-more, pieces-done, rest-length, two-parts}
 
 -- The bytes of an element that stands inside are w.
 pub length-element : (w : ℕ) (s : List ℕ) (p : ℕ) → p + w ≤ length s → length (take w (drop p s)) ≡ w
@@ -64,15 +64,6 @@ run-done s at i d l k h j e =
     ∙ ap (λ (m : ℕ). take (length d) (drop at s) ++ drop m d) n
     ∙ ap (λ (x : List ℕ). take (length d) (drop at s) ++ x) (drop-length d) ∙ append-nil (take (length d) (drop at s))
 
-take-none : (n : ℕ) → take {A = ℕ} n [] ≡ []
-take-none zero = refl
-take-none (suc n) = refl
-
-take-add : (a b : ℕ) (t : List ℕ) → take (a + b) t ≡ take a t ++ take b (drop a t)
-take-add zero b t = ap (λ (k : ℕ). take k t) (zero-add b)
-take-add (suc a) b [] = take-none (suc a + b) ∙ sym (take-none b)
-take-add (suc a) b (x ∷ t) = ap (λ (k : ℕ). take k (x ∷ t)) (suc-add a b) ∙ ap (λ (r : List ℕ). x ∷ r) (take-add a b t)
-
 -- Elements that stand one after another are a run.
 flat : (w : ℕ) (s : List ℕ) (at n : ℕ) → rowOf (turned false) w s at w 0 n ≡ take (w * n) (drop at s)
 unfolding rowOf joined
@@ -104,6 +95,14 @@ pub gave : (f : List ℕ → List ℕ) (w v : ℕ) (s : List ℕ) (at up down n 
     → l ≡ rowOf f w s at up down n
 gave f w v s at up down n l e h = h ∙ ap (λ (k : ℕ). rowOf f k s at up down n) (sym e)
 
+-- The same for the loop over a run.
+pub asked-run : (w v at up down n len m : ℕ) → w ≡ v → up ≡ v → down ≡ 0 → Inside at up down n w len → m ≡ w * n → (m ≤ len - at) × (m ≡ v * n)
+asked-run w v at up down n len m e u d i l = (runs-inside w up down at n len m (u ∙ sym e) d l i, subst (λ (k : ℕ). m ≡ k * n) e l)
+
+pub gave-run : (f : List ℕ → List ℕ) (w v : ℕ) (s : List ℕ) (at up down n : ℕ) (l : List ℕ) → w ≡ v → up ≡ v → down ≡ 0 → l ≡ rowOf f v s at v 0 n
+    → l ≡ rowOf f w s at up down n
+gave-run f w v s at up down n l e u d h = h ∙ (λ k. rowOf f (sym e k) s at (sym u k) (sym d k) n)
+
 pub width-one : {w : ℕ} → Width w → (w ≡ 8 → ⊥) → (w ≡ 4 → ⊥) → (w ≡ 2 → ⊥) → w ≡ 1
 width-one (inl e) a b c = e
 width-one (inr (inl e)) a b c = absurd (c e)
@@ -131,34 +130,17 @@ module _ (s : List ℕ) (at m : ℕ) (d p : List ℕ) (room : 16 * m ≤ length 
   first-length : length p ≡ 16 * m
   first-length = ap length first-is ∙ simp (length-take, length-drop) (omega arith)
 
-  -- The buffer with the first part written.
-  begun : patched 0 (16 * m - 0) d p ≡ over p d
-  begun = let e : 16 * m - 0 ≡ length p = omega (arith, first-length) in ap (λ (i : ℕ). p ++ drop i d) e
+  abbrev begun : List ℕ
+  begun = patched 0 (16 * m - 0) d p
 
-  begun-length : length (patched 0 (16 * m - 0) d p) ≡ length d
-  begun-length = ap length begun ∙ simp (length-append, length-drop) (omega (arith, first-length))
-
-  -- The length of the part that is lent then.
-  abbrev rest : ℕ
-  rest = length (take (length (patched 0 (16 * m - 0) d p) - 16 * m) (drop (16 * m) (patched 0 (16 * m - 0) d p)))
-
-  rest-is : rest ≡ length d - 16 * m
-  rest-is =
-      let b = patched 0 (16 * m - 0) d p in
-      let l : length b ≡ length d = begun-length in
-      length-element (length b - 16 * m) b (16 * m) (omega arith) ∙ ap (λ (k : ℕ). k - 16 * m) l
-
-  pub run-whole : (q : List ℕ) → q ≡ take rest (drop (at + 16 * m) s)
-      → patched (16 * m) (length (patched 0 (16 * m - 0) d p) - 16 * m) (patched 0 (16 * m - 0) d p) q ≡ take (length d) (drop at s)
+  pub run-whole : (q : List ℕ) → q ≡ take (length (take (length begun - 16 * m) (drop (16 * m) begun))) (drop (at + 16 * m) s)
+      → patched (16 * m) (length begun - 16 * m) begun q ≡ take (length d) (drop at s)
   run-whole q e =
       let n = length d - 16 * m in
       let t = drop at s in
       let b : q ≡ take n (drop (16 * m) t) =
-      e ∙ ap (λ (k : ℕ). take k (drop (at + 16 * m) s)) rest-is ∙ ap (take n) (sym (drop-drop (16 * m) at s)) in
-      let lp = first-length in
-      let lq : length q ≡ n = ap length b ∙ simp (length-take, length-drop) (omega arith) in
-      let w : length d ≤ length (p ++ q) = simp length-append (omega arith) in
+      e ∙ ap (λ (k : ℕ). take k (drop (at + 16 * m) s)) (rest-length d p (16 * m) room first-length)
+      ∙ ap (take n) (sym (drop-drop (16 * m) at s)) in
       let z : 16 * m + n ≡ length d = omega arith in
-      over-part p q d _ (16 * m) (length (patched 0 (16 * m - 0) d p) - 16 * m) begun lp (omega (arith, begun-length))
-      ∙ ap (λ (x : List ℕ). (p ++ q) ++ x) (drop-of-length-le d {i = length (p ++ q)} w) ∙ append-nil (p ++ q)
+      two-parts d p (16 * m) room first-length q (ap length b ∙ simp (length-take, length-drop) (omega arith))
       ∙ (λ i. first-is i ++ b i) ∙ sym (take-add (16 * m) n t) ∙ ap (λ (i : ℕ). take i t) z

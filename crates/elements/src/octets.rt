@@ -4,7 +4,7 @@ ghost use mathlib.Core.Path.{_≡_};
 ghost use mathlib.Core.Bool.{true};
 ghost use Prim.Native.Nat.{_+_, _≤_};
 ghost use lib.ListN.{length, take, drop};
-ghost use Rattle.raster.specs.Strided.{patched, turned};
+ghost use Rattle.raster.specs.Strided.{patched, turned, rowOf};
 
 pub fn get1(src: &[u8], p: usize) -> [u8; 1]
     requires { ⌜ p + 1 ≤ length (now src) ⌝ }
@@ -144,4 +144,51 @@ pub fn reverse8(b: [u8; 8]) -> [u8; 8]
     ensures { λ r. ⌜ r ≡ turned true b ⌝ }
 {
     [b[7], b[6], b[5], b[4], b[3], b[2], b[1], b[0]]
+}
+
+// Sixteen bytes as elements of two, and of four: the bytes of each reversed.
+pub fn reverse_each2(b: [u8; 16]) -> [u8; 16]
+    ensures { λ r. ⌜ r ≡ rowOf (turned true) 2 b 0 2 0 8 ⌝ }
+{
+    [
+        b[1],
+        b[0],
+        b[3],
+        b[2],
+        b[5],
+        b[4],
+        b[7],
+        b[6],
+        b[9],
+        b[8],
+        b[11],
+        b[10],
+        b[13],
+        b[12],
+        b[15],
+        b[14],
+    ]
+}
+
+pub fn reverse_each4(b: [u8; 16]) -> [u8; 16]
+    ensures { λ r. ⌜ r ≡ rowOf (turned true) 4 b 0 4 0 4 ⌝ }
+{
+    [
+        b[3],
+        b[2],
+        b[1],
+        b[0],
+        b[7],
+        b[6],
+        b[5],
+        b[4],
+        b[11],
+        b[10],
+        b[9],
+        b[8],
+        b[15],
+        b[14],
+        b[13],
+        b[12],
+    ]
 }

@@ -3,19 +3,20 @@ use crate::octets::get1;
 use crate::octets::get2;
 use crate::octets::get4;
 use crate::octets::get8;
-use crate::octets::get16;
 use crate::octets::put1;
 use crate::octets::put2;
 use crate::octets::put4;
 use crate::octets::put8;
-use crate::octets::put16;
 use crate::octets::reverse2;
 use crate::octets::reverse4;
 use crate::octets::reverse8;
+use crate::runs::reversed_run2;
+use crate::runs::reversed_run4;
+use crate::runs::run;
 ghost use mathlib.Core.Path.{_≡_};
 ghost use mathlib.Core.Bool.{true, false};
-ghost use Prim.Native.Nat.{_+_, _-_, _*_, _≤_};
-ghost use lib.ListN.{length, take, drop};
+ghost use Prim.Native.Nat.{_+_, _*_, _≤_};
+ghost use lib.ListN.{length};
 ghost use Rattle.raster.specs.Strided.{place, turned, Stands, Inside, Width, rowOf};
 
 // The byte offset of index i. `w` and `len` are for the contract alone.
@@ -78,7 +79,7 @@ fn kept8(src: &[u8], at: usize, up: usize, down: usize, n: usize, out: &mut [u8]
     }
 }
 
-fn reversed2(src: &[u8], at: usize, up: usize, down: usize, n: usize, out: &mut [u8])
+pub fn reversed2(src: &[u8], at: usize, up: usize, down: usize, n: usize, out: &mut [u8])
     requires { ⌜ Inside at up down n 2 (length (now src)) ⌝ }
     requires { ⌜ length (now out) ≡ 2 * n ⌝ }
     ensures { λ _. ⌜ now (out .exit) ≡ rowOf (turned true) 2 (now (src .entry)) at up down n ⌝ }
@@ -91,7 +92,7 @@ fn reversed2(src: &[u8], at: usize, up: usize, down: usize, n: usize, out: &mut 
     }
 }
 
-fn reversed4(src: &[u8], at: usize, up: usize, down: usize, n: usize, out: &mut [u8])
+pub fn reversed4(src: &[u8], at: usize, up: usize, down: usize, n: usize, out: &mut [u8])
     requires { ⌜ Inside at up down n 4 (length (now src)) ⌝ }
     requires { ⌜ length (now out) ≡ 4 * n ⌝ }
     ensures { λ _. ⌜ now (out .exit) ≡ rowOf (turned true) 4 (now (src .entry)) at up down n ⌝ }
@@ -115,42 +116,6 @@ fn reversed8(src: &[u8], at: usize, up: usize, down: usize, n: usize, out: &mut 
         put8(out, 8 * i, reverse8(get8(src, p)));
         i += 1;
     }
-}
-
-fn kept16(src: &[u8], at: usize, up: usize, down: usize, n: usize, out: &mut [u8])
-    requires { ⌜ Inside at up down n 16 (length (now src)) ⌝ }
-    requires { ⌜ length (now out) ≡ 16 * n ⌝ }
-    ensures { λ _. ⌜ now (out .exit) ≡ rowOf (turned false) 16 (now (src .entry)) at up down n ⌝ }
-{
-    let mut i = 0;
-    while i < n {
-        let p = spot(at, up, down, i, 16, src.len());
-        put16(out, 16 * i, get16(src, p));
-        i += 1;
-    }
-}
-
-fn bytes(src: &[u8], at: usize, out: &mut [u8])
-    requires { ⌜ length (now out) ≤ length (now src) - at ⌝ }
-    ensures { λ _. ⌜ now (out .exit) ≡ take (length (now (out .entry))) (drop at (now (src .entry))) ⌝ }
-{
-    let mut i = 0;
-    while i < out.len() {
-        out[i] = src[at + i];
-        i += 1;
-    }
-}
-
-// The bytes from `at` on: elements that stand one after another. Sixteen at a time, since a loop over bytes is quick only
-// where the compiler can show, before the rows, that file and buffer lie apart.
-fn run(src: &[u8], at: usize, out: &mut [u8])
-    requires { ⌜ length (now out) ≤ length (now src) - at ⌝ }
-    ensures { λ _. ⌜ now (out .exit) ≡ take (length (now (out .entry))) (drop at (now (src .entry))) ⌝ }
-{
-    let m = out.len() / 16;
-    let h = 16 * m;
-    kept16(src, at, 16, 0, m, &mut out[0..h]);
-    bytes(src, at + h, &mut out[h..]);
 }
 
 // A row of elements as they stand, at any width: by the loop that is made for it.
@@ -193,10 +158,22 @@ pub fn reversed(src: &[u8], w: usize, at: usize, up: usize, down: usize, n: usiz
         return;
     }
     if w == 4 {
+        if up == 4 {
+            if down == 0 {
+                reversed_run4(src, at, n, out);
+                return;
+            }
+        }
         reversed4(src, at, up, down, n, out);
         return;
     }
     if w == 2 {
+        if up == 2 {
+            if down == 0 {
+                reversed_run2(src, at, n, out);
+                return;
+            }
+        }
         reversed2(src, at, up, down, n, out);
         return;
     }

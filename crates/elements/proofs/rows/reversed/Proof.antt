@@ -1,10 +1,10 @@
--- `elements::rows::reversed` meets its contract: each way calls the loop for its width.
+-- `elements::rows::reversed` meets its contract: each way calls the loop for its width and stride.
 use mathlib.Core.Path.{_∙_}
 use mathlib.Core.Bool.{true}
 use borrow.Author.Needs.{needs}
 use lib.ListN.{length}
 use Rattle.raster.specs.Strided.{turned}
-use Rattle.elements.proofs.RowLaws.{asked, gave, width-one, either-order}
+use Rattle.elements.proofs.RowLaws.{asked, gave, asked-run, gave-run, width-one, either-order}
 use Rattle.elements.proofs.rows.reversed.Statement.{statement}
 use Rattle.elements.proofs.rows.reversed.Tie as tie
 
@@ -26,12 +26,15 @@ returns c =
     let a = s .args in
     gave (turned true) (a .w) 8 (a .src .now) (a .at) (a .up) (a .down) (a .n) _ (t .if1 .taken) (r .reversed8 .ensures)
 
-reversed4-requires : tie.Need-reversed4-requires
-reversed4-requires c κs =
-    let t = c .before in
+reversed-run4-requires : tie.Need-reversed-run4-requires
+reversed-run4-requires c κs =
+    let d = c .before in
+    let u = d .before in
+    let t = u .before in
     let s = t .before .before .before .before in
     let a = s .args in
-    asked (a .w) 4 (a .at) (a .up) (a .down) (a .n) (length (a .src .now)) (length (a .out .now)) (t .if2 .taken) (s .pre .1 .0) (s .pre .1 .1)
+    asked-run (a .w) 4 (a .at) (a .up) (a .down) (a .n) (length (a .src .now)) (length (a .out .now)) (t .if2 .taken) (u .if3 .taken)
+    (d .if4 .taken) (s .pre .1 .0) (s .pre .1 .1)
 
 same-length-2 : tie.Need-same-length-2
 same-length-2 c = search needs
@@ -39,17 +42,20 @@ same-length-2 c = search needs
 returns-2 : tie.Need-returns-2
 returns-2 c =
     let r = c .before .before in
-    let t = r .before .before in
+    let d = r .before .before in
+    let u = d .before in
+    let t = u .before in
     let s = t .before .before .before .before in
     let a = s .args in
-    gave (turned true) (a .w) 4 (a .src .now) (a .at) (a .up) (a .down) (a .n) _ (t .if2 .taken) (r .reversed4 .ensures)
+    gave-run (turned true) (a .w) 4 (a .src .now) (a .at) (a .up) (a .down) (a .n) _ (t .if2 .taken) (u .if3 .taken)
+    (d .if4 .taken) (r .reversed-run4 .ensures)
 
-reversed2-requires : tie.Need-reversed2-requires
-reversed2-requires c κs =
-    let t = c .before in
-    let s = t .before .before .before .before .before in
+reversed4-requires : tie.Need-reversed4-requires
+reversed4-requires c κs =
+    let t = c .before .before in
+    let s = t .before .before .before .before in
     let a = s .args in
-    asked (a .w) 2 (a .at) (a .up) (a .down) (a .n) (length (a .src .now)) (length (a .out .now)) (t .if3 .taken) (s .pre .1 .0) (s .pre .1 .1)
+    asked (a .w) 4 (a .at) (a .up) (a .down) (a .n) (length (a .src .now)) (length (a .out .now)) (t .if2 .taken) (s .pre .1 .0) (s .pre .1 .1)
 
 same-length-3 : tie.Need-same-length-3
 same-length-3 c = search needs
@@ -57,14 +63,20 @@ same-length-3 c = search needs
 returns-3 : tie.Need-returns-3
 returns-3 c =
     let r = c .before .before in
-    let t = r .before .before in
+    let t = r .before .before .before in
+    let s = t .before .before .before .before in
+    let a = s .args in
+    gave (turned true) (a .w) 4 (a .src .now) (a .at) (a .up) (a .down) (a .n) _ (t .if2 .taken) (r .reversed4 .ensures)
+
+reversed-run2-requires : tie.Need-reversed-run2-requires
+reversed-run2-requires c κs =
+    let d = c .before in
+    let u = d .before in
+    let t = u .before in
     let s = t .before .before .before .before .before in
     let a = s .args in
-    gave (turned true) (a .w) 2 (a .src .now) (a .at) (a .up) (a .down) (a .n) _ (t .if3 .taken) (r .reversed2 .ensures)
-
--- Elements of one byte.
-kept-requires : tie.Need-kept-requires
-kept-requires c κs = search needs
+    asked-run (a .w) 2 (a .at) (a .up) (a .down) (a .n) (length (a .src .now)) (length (a .out .now)) (t .if5 .taken) (u .if6 .taken)
+    (d .if7 .taken) (s .pre .1 .0) (s .pre .1 .1)
 
 same-length-4 : tie.Need-same-length-4
 same-length-4 c = search needs
@@ -72,12 +84,48 @@ same-length-4 c = search needs
 returns-4 : tie.Need-returns-4
 returns-4 c =
     let r = c .before .before in
+    let d = r .before .before in
+    let u = d .before in
+    let t = u .before in
+    let s = t .before .before .before .before .before in
+    let a = s .args in
+    gave-run (turned true) (a .w) 2 (a .src .now) (a .at) (a .up) (a .down) (a .n) _ (t .if5 .taken) (u .if6 .taken)
+    (d .if7 .taken) (r .reversed-run2 .ensures)
+
+reversed2-requires : tie.Need-reversed2-requires
+reversed2-requires c κs =
+    let t = c .before .before in
+    let s = t .before .before .before .before .before in
+    let a = s .args in
+    asked (a .w) 2 (a .at) (a .up) (a .down) (a .n) (length (a .src .now)) (length (a .out .now)) (t .if5 .taken) (s .pre .1 .0) (s .pre .1 .1)
+
+same-length-5 : tie.Need-same-length-5
+same-length-5 c = search needs
+
+returns-5 : tie.Need-returns-5
+returns-5 c =
+    let r = c .before .before in
+    let t = r .before .before .before in
+    let s = t .before .before .before .before .before in
+    let a = s .args in
+    gave (turned true) (a .w) 2 (a .src .now) (a .at) (a .up) (a .down) (a .n) _ (t .if5 .taken) (r .reversed2 .ensures)
+
+-- Elements of one byte.
+kept-requires : tie.Need-kept-requires
+kept-requires c κs = search needs
+
+same-length-6 : tie.Need-same-length-6
+same-length-6 c = search needs
+
+returns-6 : tie.Need-returns-6
+returns-6 c =
+    let r = c .before .before in
     let t = r .before .before in
     let s = t .before .before .before .before .before in
     let a = s .args in
     r .kept .ensures
     ∙ either-order (a .w) (a .src .now) (a .at) (a .up) (a .down) (a .n)
-    (width-one (s .pre .0) (t .before .before .if1 .left) (t .before .if2 .left) (t .if3 .left))
+    (width-one (s .pre .0) (t .before .before .if1 .left) (t .before .if2 .left) (t .if5 .left))
 
 pub reversed-spec : {M : Type 1} → statement M
 reversed-spec =
@@ -86,12 +134,18 @@ reversed-spec =
     reversed8-requires
     same-length
     returns
-    reversed4-requires
+    reversed-run4-requires
     same-length-2
     returns-2
-    reversed2-requires
+    reversed4-requires
     same-length-3
     returns-3
-    kept-requires
+    reversed-run2-requires
     same-length-4
-    returns-4)
+    returns-4
+    reversed2-requires
+    same-length-5
+    returns-5
+    kept-requires
+    same-length-6
+    returns-6)

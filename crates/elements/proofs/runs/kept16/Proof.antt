@@ -1,4 +1,4 @@
--- `elements::rows::kept16` meets its contract. The invariant: the first i elements are written.
+-- `elements::runs::kept16` meets its contract. The invariant: the first i elements are written.
 use mathlib.Core.Path.{_≡_, refl, _∙_}
 use mathlib.Core.Bool.{false}
 use Prim.Native.Nat.{_-_, _≤_}
@@ -9,8 +9,8 @@ use Rattle.scan.specs.Buffer.{over}
 use Rattle.raster.specs.Bytes.{joined}
 use Rattle.raster.specs.Strided.{turned, rowOf}
 use Rattle.elements.proofs.RowLaws.{keeps, row-more, row-done}
-use Rattle.elements.proofs.rows.kept16.Statement.{statement}
-use Rattle.elements.proofs.rows.kept16.Tie as tie
+use Rattle.elements.proofs.runs.kept16.Statement.{statement}
+use Rattle.elements.proofs.runs.kept16.Tie as tie
 
 abbrev Inv-loop : tie.InvT-loop
 Inv-loop src at up down n out₀ i₀ out i = (i ≤ n) × (length out ≡ length out₀) × (out ≡ over (rowOf (turned false) 16 src at up down i) out₀)

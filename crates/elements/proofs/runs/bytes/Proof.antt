@@ -1,4 +1,4 @@
--- `elements::rows::bytes` meets its contract. The invariant: the first i bytes are written.
+-- `elements::runs::bytes` meets its contract. The invariant: the first i bytes are written.
 use mathlib.Core.Path.{_≡_, refl}
 use Prim.Native.Nat.{_-_, _≤_}
 use native.Mathlib.Omega.{arith}
@@ -6,8 +6,8 @@ use borrow.Author.Needs.{needs}
 use lib.ListN.{length, take, drop, length-set}
 use Rattle.scan.specs.Buffer.{over}
 use Rattle.elements.proofs.RowLaws.{run-more, run-done}
-use Rattle.elements.proofs.rows.bytes.Statement.{statement}
-use Rattle.elements.proofs.rows.bytes.Tie as tie
+use Rattle.elements.proofs.runs.bytes.Statement.{statement}
+use Rattle.elements.proofs.runs.bytes.Tie as tie
 
 abbrev Inv-loop : tie.InvT-loop
 Inv-loop src at out₀ i₀ out i = (i ≤ length out₀) × (length out ≡ length out₀) × (out ≡ over (take i (drop at src)) out₀)

@@ -1,11 +1,11 @@
--- `elements::rows::run` meets its contract: two parts of the buffer are written.
+-- `elements::runs::run` meets its contract: two parts of the buffer are written.
 use Prim.Native.Nat.{_/_}
 use native.Mathlib.Omega.{arith}
 use lib.ListN.{length}
 use Rattle.elements.proofs.RowLaws.{run-whole}
 use borrow.Author.Needs.{needs}
-use Rattle.elements.proofs.rows.run.Statement.{statement}
-use Rattle.elements.proofs.rows.run.Tie as tie
+use Rattle.elements.proofs.runs.run.Statement.{statement}
+use Rattle.elements.proofs.runs.run.Tie as tie
 
 mul-h : tie.Need-mul-h
 mul-h c = search needs
