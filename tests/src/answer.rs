@@ -33,6 +33,8 @@ pub enum Answer {
     Float32(Option<u32>),
     Float64(Option<u64>),
     Failed { code: u8, position: usize },
+    /// No answer that a call may give, and why.
+    Broken(&'static str),
 }
 
 pub fn float_32(value: f32) -> Answer {

@@ -2,7 +2,10 @@
 //! and generated cases to compare readers with.
 
 pub mod answer;
+pub mod both;
 pub mod compare;
 pub mod generate;
 pub mod library;
+pub mod parallel;
+pub mod planted;
 pub mod reader;

@@ -46,32 +46,72 @@ extern "C" {
     ) -> u8;
 }
 
-/// Guards on each side of what is lent, and the most that is lent: no case needs more.
+/// What stands in a number before a call that is to leave it as it is.
+const KEPT: usize = 0x5a5a_a5a5_5a5a_a5a5;
+
+/// Guards on each side of what is lent.
 const GUARD: usize = 64;
-const LARGEST: usize = 1 << 21;
 
-/// What a number holds that a call is to leave as it is.
-const KEPT: usize = usize::MAX;
+/// Memory that is lent: a pattern, guards and all.
+struct Lent<T> {
+    memory: Vec<T>,
+    before: Vec<T>,
+}
 
-fn pattern(index: usize) -> u8 {
+impl<T: Clone + PartialEq> Lent<T> {
+    fn new(length: usize, pattern: fn(usize) -> T) -> Lent<T> {
+        let before: Vec<T> = (0..length + 2 * GUARD).map(pattern).collect();
+        Lent { memory: before.clone(), before }
+    }
+
+    fn start(&mut self) -> *mut T {
+        self.memory[GUARD..].as_mut_ptr()
+    }
+
+    /// What was written at the front, none where anything else has changed, or more was written than lent.
+    fn written(&self, length: usize) -> Option<&[T]> {
+        let end = GUARD.checked_add(length).filter(|end| *end <= self.memory.len() - GUARD)?;
+        let kept = self.memory[..GUARD] == self.before[..GUARD] && self.memory[end..] == self.before[end..];
+        Some(&self.memory[GUARD..end]).filter(|_| kept)
+    }
+}
+
+fn byte_pattern(index: usize) -> u8 {
     (index.wrapping_mul(167) >> 3) as u8 ^ 0x5a
 }
 
-/// A call that writes into a buffer: its bytes, once all others are seen to be as before.
+fn number_pattern(index: usize) -> u64 {
+    index as u64 ^ 0xa5a5_a5a5_a5a5
+}
+
+/// The answer, if all that the call is to leave as it was is so.
+fn if_kept(kept: bool, answer: Answer) -> Answer {
+    if kept { answer } else { Answer::Broken("something else was changed") }
+}
+
+/// A call that writes into a buffer.
 fn into_buffer(room: usize, call: impl Fn(*mut u8, usize, *mut usize, *mut usize) -> u8) -> Answer {
-    let room = room.min(LARGEST);
-    let mut memory: Vec<u8> = (0..room + 2 * GUARD).map(pattern).collect();
+    let mut lent = Lent::new(room, byte_pattern);
     let (mut length, mut position) = (KEPT, KEPT);
-    let code = call(memory[GUARD..].as_mut_ptr(), room, &mut length, &mut position);
-    let written = if code == 0 { length } else { 0 };
-    assert!(written <= room, "more bytes than were lent");
-    let kept = |index: usize| memory[index] == pattern(index);
-    assert!((0..GUARD).all(kept), "bytes before the buffer changed");
-    assert!((GUARD + written..memory.len()).all(kept), "bytes after those written changed");
-    assert_eq!(if code == 0 { position } else { length }, KEPT);
-    match code {
-        0 => Answer::Bytes(memory[GUARD..GUARD + written].to_vec()),
-        code => Answer::Failed { code, position },
+    match call(lent.start(), room, &mut length, &mut position) {
+        0 => match lent.written(length) {
+            Some(bytes) => if_kept(position == KEPT, Answer::Bytes(bytes.to_vec())),
+            None => Answer::Broken("bytes after those written were changed"),
+        },
+        code => if_kept(lent.written(0).is_some() && length == KEPT, Answer::Failed { code, position }),
+    }
+}
+
+/// Opens with a table of so many numbers, seven to a row.
+pub fn open_numbers(file: &[u8], numbers: usize) -> Answer {
+    let mut lent = Lent::new(numbers, number_pattern);
+    let (mut count, mut position) = (KEPT, KEPT);
+    match unsafe { edf_open(file.as_ptr(), file.len(), lent.start(), numbers, &mut count, &mut position) } {
+        0 => match lent.written(count.saturating_mul(7)) {
+            Some(numbers) => if_kept(position == KEPT, Answer::Rows(numbers.chunks(7).map(row).collect())),
+            None => Answer::Broken("rows after those of the blocks were changed"),
+        },
+        code => if_kept(lent.written(0).is_some() && count == KEPT, Answer::Failed { code, position }),
     }
 }
 
@@ -81,53 +121,35 @@ fn row(numbers: &[u64]) -> Row {
         start: numbers[0] as usize,
         header_length: numbers[1] as usize,
         data_length: numbers[2] as usize,
-        kind: numbers[3] as u8,
+        kind: u8::try_from(numbers[3]).unwrap_or(u8::MAX),
         sequence: numbers[4] as i64,
-        instance: numbers[5] as u8,
+        instance: u8::try_from(numbers[5]).unwrap_or(u8::MAX),
         memory: numbers[6] as i64,
-    }
-}
-
-/// The rows, once all other numbers of the table are seen to be as before.
-fn open(file: &[u8], rows: usize) -> Answer {
-    let size = 7 * rows.min(1000);
-    let held = |index: usize| index as u64 ^ 0xa5a5_a5a5_a5a5;
-    let mut table: Vec<u64> = (0..size + 2 * GUARD).map(held).collect();
-    let (mut count, mut position) = (KEPT, KEPT);
-    let rows = table[GUARD..].as_mut_ptr();
-    let code = unsafe { edf_open(file.as_ptr(), file.len(), rows, size, &mut count, &mut position) };
-    let written = if code == 0 { 7 * count } else { 0 };
-    let kept = |index: usize| table[index] == held(index);
-    assert!((0..GUARD).all(kept) && (GUARD + written..table.len()).all(kept), "other rows changed");
-    assert_eq!(if code == 0 { position } else { count }, KEPT);
-    match code {
-        0 => Answer::Rows(table[GUARD..GUARD + written].chunks(7).map(row).collect()),
-        code => Answer::Failed { code, position },
     }
 }
 
 fn find(file: &[u8], block: usize, key: &[u8]) -> Answer {
     let (mut start, mut length, mut position) = (KEPT, KEPT, KEPT);
-    let (place, room) = (&mut start, &mut length);
-    match unsafe { edf_find(file.as_ptr(), file.len(), block, key.as_ptr(), key.len(), place, room, &mut position) } {
-        0 => Answer::Place { start, length },
-        code => Answer::Failed { code, position },
+    let (place, size) = (&mut start, &mut length);
+    match unsafe { edf_find(file.as_ptr(), file.len(), block, key.as_ptr(), key.len(), place, size, &mut position) } {
+        0 => if_kept(position == KEPT, Answer::Place { start, length }),
+        code => if_kept((start, length) == (KEPT, KEPT), Answer::Failed { code, position }),
     }
 }
 
 fn whole_number(file: &[u8], block: usize, key: &[u8]) -> Answer {
-    let (mut value, mut position) = (i64::MIN, KEPT);
+    let (mut value, mut position) = (KEPT as i64, KEPT);
     let number = &mut value;
     match unsafe { edf_whole_number(file.as_ptr(), file.len(), block, key.as_ptr(), key.len(), number, &mut position) } {
-        0 => Answer::Number(value),
-        code => Answer::Failed { code, position },
+        0 => if_kept(position == KEPT, Answer::Number(value)),
+        code => if_kept(value == KEPT as i64, Answer::Failed { code, position }),
     }
 }
 
 fn describe(file: &[u8], block: usize) -> Answer {
     let before = Description {
-        data_type: 99, order: 99, compression: 99, n: 99, dim_1: 99, dim_2: 99, dim_3: 99, configuration: 99, orientation: 99,
-        offset: 99,
+        data_type: 99, order: 99, compression: 99, n: 99, dim_1: KEPT, dim_2: KEPT, dim_3: KEPT, configuration: 99,
+        orientation: 99, offset: KEPT as i64,
     };
     let (mut d, mut position) = (before, KEPT);
     let code = unsafe {
@@ -137,29 +159,32 @@ fn describe(file: &[u8], block: usize) -> Answer {
         )
     };
     match code {
-        0 => Answer::Description(d),
-        code => {
-            assert_eq!(d, before);
-            Answer::Failed { code, position }
-        }
+        0 => if_kept(position == KEPT, Answer::Description(d)),
+        code => if_kept(d == before, Answer::Failed { code, position }),
     }
 }
 
+/// The numbers of a pixel's four classes, floats as bits.
+type Classes = (u64, i64, u32, u64);
+
 fn read_pixel(file: &[u8], block: usize, i1: usize, i2: usize, i3: usize) -> Answer {
-    let (mut class, mut unsigned, mut signed) = (0, 0, 0);
-    let (mut single, mut double, mut position) = (0.0, 0.0, KEPT);
+    let before: Classes = (KEPT as u64, KEPT as i64, KEPT as u32, KEPT as u64);
+    let (mut class, mut unsigned, mut signed) = (99, before.0, before.1);
+    let (mut single, mut double, mut position) = (f32::from_bits(before.2), f64::from_bits(before.3), KEPT);
     let code = unsafe {
         edf_read_pixel(
             file.as_ptr(), file.len(), block, i1, i2, i3, &mut class, &mut unsigned, &mut signed, &mut single, &mut double,
             &mut position,
         )
     };
+    let after: Classes = (unsigned, signed, single.to_bits(), double.to_bits());
     match (code, class) {
-        (0, 1) => Answer::Unsigned(unsigned),
-        (0, 2) => Answer::Signed(signed),
-        (0, 3) => float_32(single),
-        (0, _) => float_64(double),
-        (code, _) => Answer::Failed { code, position },
+        (0, 1) => if_kept((before.0, after.1, after.2, after.3) == before && position == KEPT, Answer::Unsigned(unsigned)),
+        (0, 2) => if_kept((after.0, before.1, after.2, after.3) == before && position == KEPT, Answer::Signed(signed)),
+        (0, 3) => if_kept((after.0, after.1, before.2, after.3) == before && position == KEPT, float_32(single)),
+        (0, 4) => if_kept((after.0, after.1, after.2, before.3) == before && position == KEPT, float_64(double)),
+        (0, _) => Answer::Broken("no class of pixel"),
+        (code, class) => if_kept(after == before && class == 99, Answer::Failed { code, position }),
     }
 }
 
@@ -176,7 +201,7 @@ fn write(f: &Frame, title: &[u8], pixels: &[u8], room: usize) -> Answer {
 pub fn answer(file: &[u8], call: &Call) -> Option<Answer> {
     let (bytes, size) = (file.as_ptr(), file.len());
     Some(match call {
-        Call::Open { rows } => open(file, *rows),
+        Call::Open { rows } => open_numbers(file, 7 * rows),
         Call::Find { block, key } => find(file, *block, key),
         Call::WholeNumber { block, key } => whole_number(file, *block, key),
         Call::Text { block, key, room } => into_buffer(*room, |out, room, length, position| unsafe {
@@ -196,4 +221,45 @@ pub fn answer(file: &[u8], call: &Call) -> Option<Answer> {
         Call::Write { frame, title, pixels, room } => write(frame, title, pixels, *room),
         Call::Part { .. } | Call::List => return None,
     })
+}
+
+#[cfg(test)]
+mod tests {
+    use super::*;
+
+    /// What `into_buffer` makes of a call that writes `bytes` from `offset` on and answers a code, length and position.
+    fn seen(offset: isize, bytes: &[u8], code: u8, length: usize, position: usize) -> Answer {
+        into_buffer(8, |out, room, length_out, position_out| unsafe {
+            assert_eq!(room, 8);
+            out.offset(offset).copy_from(bytes.as_ptr(), bytes.len());
+            *length_out = length;
+            *position_out = position;
+            code
+        })
+    }
+
+    #[test]
+    fn what_a_call_may_do() {
+        assert_eq!(seen(0, b"abc", 0, 3, KEPT), Answer::Bytes(b"abc".to_vec()));
+        assert_eq!(seen(0, b"abcdefgh", 0, 8, KEPT), Answer::Bytes(b"abcdefgh".to_vec()));
+        assert_eq!(seen(0, b"", 0, 0, KEPT), Answer::Bytes(vec![]));
+        assert_eq!(seen(0, b"", 22, KEPT, 7), Answer::Failed { code: 22, position: 7 });
+    }
+
+    #[test]
+    fn what_a_call_may_not_do() {
+        let broken = |answer: Answer| assert!(matches!(answer, Answer::Broken(_)), "{answer:?}");
+        broken(seen(-1, b"x", 0, 0, KEPT));
+        broken(seen(-64, b"x", 0, 0, KEPT));
+        broken(seen(3, b"x", 0, 3, KEPT));
+        broken(seen(7, b"x", 0, 7, KEPT));
+        broken(seen(8, b"x", 0, 8, KEPT));
+        broken(seen(71, b"x", 0, 8, KEPT));
+        broken(seen(0, b"", 0, 9, KEPT));
+        broken(seen(0, b"", 0, usize::MAX, KEPT));
+        broken(seen(0, b"abc", 0, 3, 0));
+        broken(seen(0, b"x", 22, KEPT, 0));
+        broken(seen(8, b"x", 22, KEPT, 0));
+        broken(seen(0, b"", 22, 0, 0));
+    }
 }

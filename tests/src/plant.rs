@@ -84,13 +84,13 @@ fn manifest_text(package: &Path) -> String {
 fn main_text() -> String {
     let numbers = 0..FAULTS.len();
     let modules: Vec<String> = numbers.clone().map(|i| format!("mod {0};\nedf_tests::answer_function!(answer_{i:03}, {0});", name(i))).collect();
-    let readers: Vec<String> = numbers.map(|i| format!("answer_{i:03}")).collect();
+    let readers: Vec<String> = numbers.map(|i| format!("|file, call| Some(answer_{i:03}(file, call))")).collect();
     let titles: Vec<String> = FAULTS.iter().map(|f| format!("({:?}, {:?}, {:?})", f.file, f.old, f.new)).collect();
     format!(
         "#![allow(warnings)]\n{}\n\nfn main() {{\n    let titles = [\n        {}\n    ];\n    \
-        edf_tests::compare::print_found(&titles, &[{}], {SEED}, {CASES});\n}}\n",
+        edf_tests::planted::print_found(&titles, &[\n        {}\n    ], {SEED}, {CASES});\n}}\n",
         modules.join("\n"),
         titles.join(",\n        "),
-        readers.join(", ")
+        readers.join(",\n        ")
     )
 }

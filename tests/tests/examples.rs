@@ -1,6 +1,7 @@
-//! The examples of 01, "Examples both sides", one by one.
+//! The examples of 01, "Examples both sides", one by one, by the second reader and by the library.
 
-use edf_tests::reader::*;
+use edf_tests::both::*;
+use edf_tests::reader::{list, orders, Error, Frame, Pixel};
 
 fn padded(body: &str, length: usize) -> Vec<u8> {
     let mut header = format!("{{{body}").into_bytes();

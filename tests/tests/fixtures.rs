@@ -1,5 +1,7 @@
-//! Every fixture's listing, byte for byte.
+//! Every fixture: its listing, byte for byte, and every call on it, by the second reader and by the library.
 
+use edf_tests::both::both;
+use edf_tests::generate::thorough::every_call;
 use edf_tests::reader::list;
 use std::fs;
 use std::path::{Path, PathBuf};
@@ -9,17 +11,25 @@ fn fixtures() -> Vec<PathBuf> {
     let mut files: Vec<PathBuf> = fs::read_dir(folder).unwrap().map(|entry| entry.unwrap().path()).collect();
     files.retain(|path| path.extension().is_some_and(|extension| extension == "edf"));
     files.sort();
+    assert!(files.len() >= 41);
     files
 }
 
 #[test]
 fn every_listing() {
-    let files = fixtures();
-    for path in &files {
+    for path in fixtures() {
         let expected = fs::read(path.with_extension("list")).unwrap();
-        let listed = list(&fs::read(path).unwrap());
+        let listed = list(&fs::read(&path).unwrap());
         assert_eq!(String::from_utf8_lossy(&listed), String::from_utf8_lossy(&expected), "{}", path.display());
     }
-    println!("{} fixtures", files.len());
-    assert!(files.len() >= 40);
+}
+
+#[test]
+fn every_call_on_every_fixture() {
+    for path in fixtures() {
+        let file = fs::read(&path).unwrap();
+        let calls = every_call(&file);
+        println!("{}: {} calls", path.display(), calls.len());
+        calls.iter().for_each(|call| drop(both(&file, call)));
+    }
 }

@@ -1,61 +1,48 @@
-//! The verified library answers every call as the second reader does.
+//! The verified library answers generated cases as the second reader does.
+//! EDF_SEED, EDF_FIRST and EDF_CASES say which: so many cases of a seed, from the first on.
 
-use edf_tests::answer::{answer, Call};
-use edf_tests::generate::Cases;
+use edf_tests::answer::Answer;
+use edf_tests::compare::compare;
 use edf_tests::library;
+use std::io::Write;
+use std::time::Instant;
 
-/// Calls compared on the cases of a seed.
-fn compared(seed: u64, cases: usize) -> usize {
-    let mut calls = 0;
-    for (number, case) in Cases::new(seed).take(cases).enumerate() {
-        for call in &case.calls {
-            if let Some(given) = library::answer(&case.file, call) {
-                assert_eq!(given, answer(&case.file, call), "seed {seed}, case {number}, {call:?}");
-                calls += 1;
-            }
-        }
-    }
-    println!("seed {seed}: {calls} calls on {cases} cases");
-    calls
+/// After so many cases a line is printed.
+const PORTION: usize = 50_000;
+
+fn number(name: &str, default: usize) -> usize {
+    std::env::var(name).map_or(default, |text| text.parse().expect(name))
 }
 
-/// As many cases as EDF_CASES says, from the seed EDF_SEED.
+/// Prints a line in every log, also where the output of tests is captured.
+fn tell(line: String) {
+    writeln!(std::io::stderr(), "{line}").expect("stderr");
+}
+
 #[test]
 fn generated_cases_are_answered_alike() {
-    let number = |name: &str, default: u64| std::env::var(name).ok().and_then(|v| v.parse().ok()).unwrap_or(default);
-    let (seed, cases) = (number("EDF_SEED", 1), number("EDF_CASES", 5000));
-    assert!(compared(seed, cases as usize) as u64 >= cases);
-}
-
-/// The calls on a block of a fixture.
-fn calls_on(block: usize) -> Vec<Call> {
-    let key = |name: &str| name.as_bytes().to_vec();
-    vec![
-        Call::Find { block, key: key("DataType") },
-        Call::WholeNumber { block, key: key("Dim_1") },
-        Call::Text { block, key: key("Title"), room: 1023 },
-        Call::Describe { block },
-        Call::ReadArray { block, order: 1, room: 1 << 20 },
-        Call::ReadArray { block, order: 2, room: 1 << 20 },
-        Call::ReadPixel { block, i1: 0, i2: 0, i3: 0 },
-        Call::ReadPixel { block, i1: 2, i2: 1, i3: 0 },
-    ]
-}
-
-#[test]
-fn fixtures_are_answered_alike() {
-    let folder = concat!(env!("CARGO_MANIFEST_DIR"), "/fixtures");
-    let mut count = 0;
-    for entry in std::fs::read_dir(folder).unwrap() {
-        let path = entry.unwrap().path();
-        if path.extension().is_some_and(|e| e == "edf") {
-            let file = std::fs::read(&path).unwrap();
-            let opening = [Call::Open { rows: 255 }, Call::Open { rows: 256 }];
-            for call in opening.into_iter().chain((0..12).flat_map(calls_on)) {
-                assert_eq!(library::answer(&file, &call), Some(answer(&file, &call)), "{path:?}, {call:?}");
-            }
-            count += 1;
-        }
+    let (seed, first, cases) = (number("EDF_SEED", 1), number("EDF_FIRST", 0), number("EDF_CASES", 200_000));
+    let (start, end) = (Instant::now(), first + cases);
+    let mut calls = 0;
+    for from in (first..end).step_by(PORTION) {
+        let to = end.min(from + PORTION);
+        calls += compare(library::answer, seed as u64, from..to).unwrap_or_else(|difference| panic!("{difference}"));
+        let seconds = start.elapsed().as_secs();
+        tell(format!("seed {seed}, cases {first} to {}: {calls} calls answered alike, {seconds} s", to - 1));
     }
-    assert_eq!(count, 41);
+    assert!(calls >= cases);
+}
+
+/// A table of 255 rows and 6 numbers is too small; numbers past 256 rows stay as they were.
+#[test]
+fn tables_that_are_no_whole_rows() {
+    let mut header = vec![b' '; 512];
+    header[0] = b'{';
+    header[510..].copy_from_slice(b"}\n");
+    for numbers in [0, 1, 6, 7, 7 * 255, 7 * 256 - 1] {
+        assert_eq!(library::open_numbers(&header, numbers), Answer::Failed { code: 2, position: 0 });
+    }
+    for numbers in [7 * 256, 7 * 256 + 1, 7 * 256 + 6, 7 * 257] {
+        assert!(matches!(library::open_numbers(&header, numbers), Answer::Rows(rows) if rows.len() == 1));
+    }
 }

@@ -1,6 +1,8 @@
-//! Each number of refusal, just refused and just accepted.
+//! Each number of refusal, just refused and just accepted, by the second reader and by the library.
 
-use edf_tests::reader::*;
+use edf_tests::answer::{Answer, Call};
+use edf_tests::both::*;
+use edf_tests::reader::{Error, Frame};
 
 fn padded(body: &str, length: usize) -> Vec<u8> {
     let mut header = format!("{{{body}").into_bytes();
@@ -40,11 +42,16 @@ const GOOD: Outcome = (0, 0);
 
 #[test]
 fn one_and_two() {
-    assert_eq!(opened(&vec![0; (1 << 30) + 1]), (1, 0));
-    assert_eq!(opened(&vec![0; 1 << 30]), (3, 0));
+    let mut large = vec![0; 1 << 30];
+    assert_eq!(opened(&large), (3, 0));
+    large[..512].copy_from_slice(&plain(&format!("Size={};", (1 << 30) - 512)));
+    assert_eq!(opened(&large), GOOD);
+    large.push(0);
+    assert_eq!(opened(&large), (1, 0));
+    assert_eq!(outcome(open(&large, 255)), (1, 0));
+    assert_eq!(outcome(describe(&large, 0)), (1, 0));
     assert_eq!(outcome(open(&plain(""), 255)), (2, 0));
     assert_eq!(outcome(open(&plain(""), 256)), GOOD);
-    assert_eq!(outcome(describe(&vec![0; (1 << 30) + 1], 0)), (1, 0));
 }
 
 #[test]
@@ -74,6 +81,22 @@ fn six_to_eight() {
     assert_eq!(opened(&padded(&format!("k={};", "v".repeat(2_049)), 2_560)), (7, 0));
     assert_eq!(opened(&plain("a=;b=;")), GOOD);
     assert_eq!(opened(&plain("a=;A=;")), (8, 0));
+}
+
+/// A header of 65,536 bytes that is full of keys, and the same with the key of its last statement somewhere before.
+#[test]
+fn eight_in_a_full_header() {
+    let letter = |number: usize| char::from(b'a' + (number % 26) as u8);
+    let key = |number: usize| [letter(number / 676), letter(number / 26), letter(number)].iter().collect::<String>();
+    let full = |last: &str| {
+        let keys: Vec<String> = (0..13_105).map(key).chain([last.to_string()]).collect();
+        let body: String = keys.iter().map(|key| format!("{key}=;")).collect();
+        opened(&padded(&body, 65_536))
+    };
+    assert_eq!(full(&key(13_105)), GOOD);
+    for number in [0, 1, 6_000, 13_104] {
+        assert_eq!(full(&key(number).to_uppercase()), (8, 0));
+    }
 }
 
 #[test]
@@ -141,4 +164,19 @@ fn twenty_two_to_twenty_five() {
     assert_eq!(outcome(text(&title, 0, b"a", 1_023)), GOOD);
     assert_eq!(outcome(text(&title, 0, b"a", 1_022)), (22, 0));
     assert_eq!(outcome(text(&title, 0, b"b", 0)), (25, 0));
+}
+
+/// A file that is written has at most 1,073,741,824 bytes: 512 of header and 172,544 times 6,223 pixels, and one pixel more.
+#[test]
+fn twenty_four_at_the_limit_of_files() {
+    let given = |dim_1: usize, dim_2: usize| {
+        let frame = Frame {
+            sequence: 1, instance: 1, memory: 1, data_type: 1, order: 1, n: 2, dim_1, dim_2, dim_3: 0, configuration: 1,
+        };
+        both(b"", &Call::Write { frame, title: vec![], pixels: vec![0; dim_1 * dim_2], room: 0 })
+    };
+    assert_eq!(172_544 * 6_223, (1 << 30) - 512);
+    assert_eq!(given(172_544, 6_223), Answer::Failed { code: 22, position: 0 });
+    assert_eq!(37_119 * 28_927, (1 << 30) - 511);
+    assert_eq!(given(37_119, 28_927), Answer::Failed { code: 24, position: 0 });
 }

@@ -1,14 +1,19 @@
-//! Round trips of writing, for all types, both orders, N = 1 to 3 and all configurations.
+//! Round trips of writing, for all types, both orders, N = 1 to 3 and all configurations, by the second reader and by the library.
 
+use edf_tests::both::*;
+use edf_tests::parallel;
 use edf_tests::reader::element::TYPES;
-use edf_tests::reader::*;
+use edf_tests::reader::{Frame, Pixel};
+
+/// Room for each file and value.
+const ROOM: usize = 1 << 18;
 
 const DIMS: [usize; 3] = [4, 3, 2];
 
 fn pixels(frame: &Frame) -> Vec<u8> {
     let width = TYPES[usize::from(frame.data_type) - 1].width;
-    let elements: usize = DIMS[..usize::from(frame.n)].iter().product();
-    (0..elements * width).map(|i| (i * 37 + 11) as u8).collect()
+    let elements: usize = [frame.dim_1, frame.dim_2, frame.dim_3][..usize::from(frame.n)].iter().product();
+    (0..elements * width).map(|i| (i * 37 + i / 256 + 11) as u8).collect()
 }
 
 fn frames() -> Vec<Frame> {
@@ -42,23 +47,37 @@ fn delivered_value(frame: &Frame, pixels: &[u8], place: usize) -> Pixel {
     }
 }
 
+fn array_comes_back(frame: Frame) {
+    let pixels = pixels(&frame);
+    let file = write(frame, b"t", &pixels, ROOM).unwrap();
+    assert_eq!(read_array(&file, 0, 1, pixels.len()), Ok(pixels.clone()), "{frame:?}");
+    let width = TYPES[usize::from(frame.data_type) - 1].width;
+    let low: Vec<u8> = pixels.chunks(width).flat_map(|pixel| pixel.iter().rev().copied()).collect();
+    assert_eq!(read_array(&file, 0, 2, pixels.len()), Ok(low));
+}
+
 #[test]
 fn arrays_come_back() {
-    for frame in frames() {
-        let pixels = pixels(&frame);
-        let file = write(frame, b"t", &pixels, usize::MAX).unwrap();
-        assert_eq!(read_array(&file, 0, 1, pixels.len()), Ok(pixels.clone()), "{frame:?}");
-        let width = TYPES[usize::from(frame.data_type) - 1].width;
-        let low: Vec<u8> = pixels.chunks(width).flat_map(|pixel| pixel.iter().rev().copied()).collect();
-        assert_eq!(read_array(&file, 0, 2, pixels.len()), Ok(low));
-    }
+    frames().into_iter().for_each(array_comes_back);
+}
+
+/// Thousands of elements, in rows and planes of odd lengths.
+#[test]
+fn larger_arrays_come_back() {
+    let larger = |frame: Frame| match frame.n {
+        1 => Frame { dim_1: 9_001, ..frame },
+        2 => Frame { dim_1: 131, dim_2: 67, ..frame },
+        _ => Frame { dim_1: 35, dim_2: 19, dim_3: 13, ..frame },
+    };
+    let frames: Vec<Frame> = frames().into_iter().filter(|frame| frame.n < 3 || frame.configuration % 7 == 6).map(larger).collect();
+    parallel::for_each(0..frames.len(), |number| array_comes_back(frames[number]));
 }
 
 #[test]
 fn pixels_come_back() {
     for frame in frames().into_iter().filter(|frame| frame.configuration % 5 == 1) {
         let pixels = pixels(&frame);
-        let file = write(frame, b"t", &pixels, usize::MAX).unwrap();
+        let file = write(frame, b"t", &pixels, ROOM).unwrap();
         let dims = [0, 1, 2].map(|axis| if axis < usize::from(frame.n) { DIMS[axis] } else { 1 });
         let mut place = 0;
         for i3 in 0..dims[2] {
@@ -76,7 +95,7 @@ fn pixels_come_back() {
 #[test]
 fn frames_come_back() {
     for frame in frames() {
-        let file = write(frame, b"", &pixels(&frame), usize::MAX).unwrap();
+        let file = write(frame, b"", &pixels(&frame), ROOM).unwrap();
         let row = open(&file, 256).unwrap()[0];
         assert_eq!((row.sequence, row.instance, row.memory), (frame.sequence, frame.instance, frame.memory));
         let d = describe(&file, 0).unwrap();
@@ -92,8 +111,8 @@ fn titles_come_back() {
     let all: Vec<u8> = (1..=127).collect();
     let titles = [&b""[..], b" ", b"x;", b"\"", b"\\", b"\r\n", b"{a}", &all, &[b';'; 1_023], &[b'\\'; 1_023]];
     for title in titles {
-        let file = write(frame, title, &pixels(&frame), usize::MAX).unwrap();
+        let file = write(frame, title, &pixels(&frame), ROOM).unwrap();
         assert_eq!(text(&file, 0, b"Title", title.len()), Ok(title.to_vec()));
-        assert_eq!(unescape(&escape(title, usize::MAX).unwrap(), title.len()), Ok(title.to_vec()));
+        assert_eq!(unescape(&escape(title, ROOM).unwrap(), title.len()), Ok(title.to_vec()));
     }
 }

@@ -1,9 +1,11 @@
-//! The generated cases reach every number of refusal, and success, often.
+//! The generated cases reach every number of refusal, every call's success and every number of blocks often.
 
 use edf_tests::answer::{answer, Answer, Call};
-use edf_tests::generate::{Case, Cases};
+use edf_tests::generate::{case, Case};
+use edf_tests::parallel;
 use std::collections::{BTreeMap, BTreeSet};
 
+/// The first of the cases that the library is compared on.
 const SEED: u64 = 1;
 const CASES: usize = 20_000;
 const OFTEN: usize = 50;
@@ -36,9 +38,30 @@ fn code(answer: &Answer) -> u8 {
     }
 }
 
-/// What the calls of a case give, each outcome once.
-fn outcomes(case: &Case) -> BTreeSet<Outcome> {
-    case.calls.iter().map(|call| (name(call), code(&answer(&case.file, call)))).collect()
+/// What one case shows.
+struct Seen {
+    outcomes: BTreeSet<Outcome>,
+    /// The blocks of a file that opens.
+    blocks: Option<usize>,
+    calls: usize,
+    bytes: usize,
+}
+
+fn seen(case: &Case) -> Seen {
+    let answers: Vec<(&Call, Answer)> = case.calls.iter().map(|call| (call, answer(&case.file, call))).collect();
+    let blocks = answers.iter().find_map(|(_, answer)| match answer {
+        Answer::Rows(rows) => Some(rows.len()),
+        _ => None,
+    });
+    let outcomes = answers.iter().map(|(call, answer)| (name(call), code(answer))).collect();
+    Seen { outcomes, blocks, calls: case.calls.len(), bytes: case.file.len() }
+}
+
+/// How many cases show each of some things.
+fn counts<T: Ord>(things: impl Iterator<Item = T>) -> BTreeMap<T, usize> {
+    let mut counts = BTreeMap::new();
+    things.for_each(|thing| *counts.entry(thing).or_default() += 1);
+    counts
 }
 
 fn print_by_call(counts: &BTreeMap<Outcome, usize>) {
@@ -51,33 +74,34 @@ fn print_by_call(counts: &BTreeMap<Outcome, usize>) {
 }
 
 #[test]
-fn every_code_is_reached_often() {
-    let mut by_code = [0usize; 26];
-    let mut by_call: BTreeMap<Outcome, usize> = BTreeMap::new();
-    let (mut calls, mut bytes, mut longest) = (0, 0, 0);
-    for case in Cases::new(SEED).take(CASES) {
-        let outcomes = outcomes(&case);
-        let codes: BTreeSet<u8> = outcomes.iter().map(|(_, code)| *code).collect();
-        codes.into_iter().for_each(|code| by_code[usize::from(code)] += 1);
-        outcomes.into_iter().for_each(|outcome| *by_call.entry(outcome).or_default() += 1);
-        calls += case.calls.len();
-        bytes += case.file.len();
-        longest = longest.max(case.file.len());
-    }
-    println!("seed {SEED}, {CASES} cases, {calls} calls, {bytes} bytes of files, longest {longest}");
-    by_code.iter().enumerate().for_each(|(code, count)| println!("code {code:2}: {count} cases"));
+fn everything_is_reached_often() {
+    let all = parallel::for_each(0..CASES, |number| seen(&case(SEED, number)));
+    let sum = |count: fn(&Seen) -> usize| all.iter().map(count).sum::<usize>();
+    println!("seed {SEED}, {CASES} cases, {} calls, {} bytes of files", sum(|s| s.calls), sum(|s| s.bytes));
+    let by_call = counts(all.iter().flat_map(|seen| seen.outcomes.iter().copied()));
     print_by_call(&by_call);
-    for (code, count) in by_code.iter().enumerate() {
-        assert!(*count >= OFTEN, "code {code}: {count}");
+    let codes = |seen: &Seen| seen.outcomes.iter().map(|(_, code)| *code).collect::<BTreeSet<u8>>();
+    let by_code = counts(all.iter().flat_map(codes));
+    println!("by code {by_code:?}");
+    for code in 0..=25 {
+        assert!(by_code.get(&code).is_some_and(|&count| count >= OFTEN), "code {code}");
     }
     for call in ["open", "find", "whole_number", "text", "describe", "read_array", "read_pixel", "escape", "unescape", "write"] {
         assert!(by_call[&(call, 0)] >= 20 * OFTEN, "{call} succeeds");
+    }
+    let by_blocks = counts(all.iter().filter_map(|seen| seen.blocks));
+    println!("by blocks {by_blocks:?}");
+    for (least, most) in [(1, 1), (2, 4), (5, 12), (13, 127), (128, 252), (253, 255), (256, 256)] {
+        let count: usize = by_blocks.range(least..=most).map(|(_, count)| count).sum();
+        println!("{least} to {most} blocks: {count} cases");
+        assert!(count >= 10, "{least} to {most} blocks: {count}");
     }
 }
 
 #[test]
 fn the_same_seed_gives_the_same_cases() {
-    let draw = |seed: u64| Cases::new(seed).take(50).map(|case| format!("{case:?}")).collect::<Vec<String>>();
+    let draw = |seed: u64| (0..50).map(|number| format!("{:?}", case(seed, number))).collect::<BTreeSet<String>>();
     assert_eq!(draw(5), draw(5));
-    assert_ne!(draw(5), draw(6));
+    assert_eq!(draw(5).len(), 50);
+    assert!(draw(5).is_disjoint(&draw(6)));
 }

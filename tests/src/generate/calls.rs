@@ -53,13 +53,13 @@ fn block_calls(random: &mut Random, plan: &Plan, file: &[u8], block: usize, call
     calls.push(Call::Text { block, key, room: room(random, length) });
 }
 
-/// Just enough, one too small, nothing, or plenty.
+/// Just enough, one too small, nothing, one more, or plenty.
 pub fn room(random: &mut Random, length: usize) -> usize {
     match random.below(8) {
         0 | 1 => length.saturating_sub(1),
         2 => 0,
         3 => length + 1,
-        4 => ROOMY,
+        4 => length + random.from_to(2, 2_000),
         _ => length,
     }
 }

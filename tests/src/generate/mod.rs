@@ -9,6 +9,7 @@ pub mod mutate;
 pub mod plan;
 pub mod random;
 pub mod shapes;
+pub mod thorough;
 pub mod valid;
 pub mod values;
 pub mod words;
@@ -23,35 +24,20 @@ pub struct Case {
     pub calls: Vec<Call>,
 }
 
-/// Cases without end; the same seed gives the same cases.
-pub struct Cases {
-    random: Random,
-}
-
-impl Cases {
-    pub fn new(seed: u64) -> Cases {
-        Cases { random: Random::new(seed) }
+/// The case with this number of a seed: a quarter valid, half with structured mutations, a quarter with bytes changed.
+pub fn case(seed: u64, number: usize) -> Case {
+    let random = &mut Random::of(seed, number as u64);
+    let mut plan = valid::valid(random);
+    let way = random.below(100);
+    for _ in 0..mutations(random, way) {
+        mutate::mutate(random, &mut plan);
     }
-}
-
-impl Iterator for Cases {
-    type Item = Case;
-
-    /// A quarter valid, half with structured mutations, a quarter with bytes changed.
-    fn next(&mut self) -> Option<Case> {
-        let random = &mut self.random;
-        let mut plan = valid::valid(random);
-        let way = random.below(100);
-        for _ in 0..mutations(random, way) {
-            mutate::mutate(random, &mut plan);
-        }
-        let mut file = plan.render();
-        if way >= 80 {
-            flips::flip(random, &mut file);
-        }
-        let calls = calls::calls(random, &plan, &file);
-        Some(Case { file, calls })
+    let mut file = plan.render();
+    if way >= 80 {
+        flips::flip(random, &mut file);
     }
+    let calls = calls::calls(random, &plan, &file);
+    Case { file, calls }
 }
 
 /// None for valid files and half of the flipped ones, else mostly one.

@@ -116,8 +116,8 @@ pub struct Plan {
 
 impl Plan {
     pub fn render(&self) -> Vec<u8> {
-        let blocks = self.blocks.iter().flat_map(BlockPlan::render);
-        blocks.chain(self.after.iter().copied()).collect()
+        let blocks: Vec<Vec<u8>> = self.blocks.iter().map(BlockPlan::render).collect();
+        [blocks.concat(), self.after.clone()].concat()
     }
 }
 

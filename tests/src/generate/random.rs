@@ -7,11 +7,12 @@ pub struct Random {
 
 impl Random {
     pub fn new(seed: u64) -> Random {
-        let mut random = Random { state: seed.wrapping_mul(0x9e37_79b9_7f4a_7c15) | 1 };
-        (0..8).for_each(|_| {
-            random.next();
-        });
-        random
+        Random::of(seed, 0)
+    }
+
+    /// The numbers for one case of a seed.
+    pub fn of(seed: u64, number: u64) -> Random {
+        Random { state: mixed(mixed(seed).wrapping_add(number)).max(1) }
     }
 
     pub fn next(&mut self) -> u64 {
@@ -49,6 +50,14 @@ impl Random {
     }
 }
 
+/// Every bit of the answer depends on every bit of the number (the last step of SplitMix64).
+fn mixed(number: u64) -> u64 {
+    let number = number.wrapping_add(0x9e37_79b9_7f4a_7c15);
+    let number = (number ^ number >> 30).wrapping_mul(0xbf58_476d_1ce4_e5b9);
+    let number = (number ^ number >> 27).wrapping_mul(0x94d0_49bb_1331_11eb);
+    number ^ number >> 31
+}
+
 #[cfg(test)]
 mod tests {
     use super::*;
@@ -59,6 +68,7 @@ mod tests {
         assert_eq!(draw(1), draw(1));
         assert_ne!(draw(1), draw(2));
         assert_ne!(draw(0), draw(2));
+        assert_ne!(Random::of(1, 1).bytes(20), Random::of(1, 2).bytes(20));
     }
 
     #[test]

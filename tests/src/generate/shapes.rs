@@ -109,3 +109,23 @@ pub fn again(random: &mut Random, plan: &mut Plan) -> Option<()> {
     block.statements.insert(place, statement);
     Some(())
 }
+
+/// 8: a header of many statements, one of them perhaps again at any distance.
+pub fn crowd(random: &mut Random, plan: &mut Plan) -> Option<()> {
+    let count = random.pick(&[10, 30, 100, 100, 200, 400, 600]);
+    let count = if random.percent(2) { random.from_to(2_000, 5_000) } else { count };
+    let first = random.below(10_000);
+    let block = any_block(random, plan)?;
+    let top = block.top();
+    let mut crowd: Vec<Statement> = (first..first + count).map(|number| Statement::new(format!("k{number}").as_bytes(), b"")).collect();
+    if random.percent(50) {
+        let mut statement = random.pick(&crowd);
+        statement.key = dress::sought(random, &statement.key);
+        if random.percent(30) {
+            statement.key.push(b'_');
+        }
+        crowd.insert(random.below(count + 1), statement);
+    }
+    block.statements.splice(top..top, crowd);
+    Some(())
+}

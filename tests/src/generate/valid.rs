@@ -32,13 +32,15 @@ pub fn valid(random: &mut Random) -> Plan {
     Plan { kind, general, blocks, after: vec![] }
 }
 
+/// Few blocks mostly; many where headers may be short, and else seldom.
 fn block_count(random: &mut Random, boundary: usize) -> usize {
     match random.below(100) {
         0..=49 => 1,
         50..=89 => random.from_to(2, 4),
         90..=97 => random.from_to(5, 12),
-        _ if boundary < 64 || random.percent(4) => random.from_to(253, 257),
-        _ => 1,
+        _ if boundary >= 64 && !random.percent(40) => 1,
+        98 => random.from_to(13, 252),
+        _ => random.from_to(253, 257),
     }
 }
 
@@ -165,7 +167,7 @@ fn shuffled(random: &mut Random, mut statements: Vec<Statement>) -> Vec<Statemen
 fn array(random: &mut Random) -> Array {
     let code = random.below(10);
     let n = random.pick(&[0, 1, 2, 2, 2, 3, 3]);
-    let dims: Vec<usize> = (0..n).map(|_| random.from_to(1, 4)).collect();
+    let dims = dims(random, n);
     let configurations = [2, 2, 8, 48][n] as usize;
     let mut fields = vec![("DataType".to_string(), TYPES[code].to_string())];
     let mut maybe = |random: &mut Random, key: &str, value: String| {
@@ -193,6 +195,15 @@ fn array(random: &mut Random) -> Array {
     }
     let elements: usize = if n == 0 { 0 } else { dims.iter().product() };
     Array { fields, length: elements * WIDTHS[code] }
+}
+
+/// Small Dims, and sometimes one that is not.
+fn dims(random: &mut Random, n: usize) -> Vec<usize> {
+    let mut dims: Vec<usize> = (0..n).map(|_| random.from_to(1, 4)).collect();
+    if n > 0 && random.percent(10) {
+        dims[random.below(n)] = random.from_to(5, 100);
+    }
+    dims
 }
 
 /// Pixels: random, small, extreme, or full of header patterns.

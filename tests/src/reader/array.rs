@@ -3,7 +3,8 @@
 use super::describe::{describe_in, Description};
 use super::element::{bytes_of_value, ordered, shifted, type_of, value_of_bytes, Type};
 use super::error::{demand, refuse, Error};
-use super::opening::{cut, Block};
+use super::memo::cut;
+use super::opening::Block;
 use super::orders::{order_of, stored_places, Order};
 
 /// An array that passed every check of `describe`, with its stored bytes.

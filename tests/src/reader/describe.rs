@@ -3,8 +3,9 @@
 use super::element::{type_of, Form, BYTE_ORDERS, TYPES};
 use super::error::{demand, refuse, Error};
 use super::keywords::seek;
+use super::memo::cut;
 use super::number::parse_whole;
-use super::opening::{cut, Block};
+use super::opening::Block;
 use super::orders::all_orders;
 use super::rules::Role;
 use super::span::part;

@@ -1,8 +1,9 @@
 //! Looking up keywords.
 
 use super::error::{refuse, Error};
+use super::memo::cut;
 use super::number::parse_whole;
-use super::opening::{cut, Block};
+use super::opening::Block;
 use super::rules::{is_edf, Role};
 use super::span::{part, Span};
 use super::statement::folded_key;

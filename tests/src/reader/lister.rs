@@ -4,7 +4,8 @@ use super::describe::{describe_in, Description};
 use super::element::{type_of, BYTE_ORDERS};
 use super::error::Error;
 use super::identity::identity_text;
-use super::opening::{cut, Block};
+use super::memo::cut;
+use super::opening::Block;
 use super::rules::Role;
 
 /// "It reads standard input, up to 65,536 bytes (more: `refused 1 0`)."

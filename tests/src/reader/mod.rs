@@ -8,6 +8,7 @@ pub mod header;
 pub mod identity;
 pub mod keywords;
 pub mod lister;
+pub mod memo;
 pub mod number;
 pub mod opening;
 pub mod orders;

@@ -2,6 +2,7 @@
 
 use super::error::{demand, Error};
 use super::header::{find_header, Header};
+use super::memo::cut;
 use super::rules::{facts, role_of_first, role_of_other, Count, Facts, Role};
 use super::statement::{read_statements, Statement};
 
@@ -43,7 +44,7 @@ pub fn open(file: &[u8], table_rows: usize) -> Result<Vec<Row>, Error> {
 }
 
 /// The cut of a file, for calls on a block: "an opening refusal first (but 2)".
-pub fn cut(file: &[u8]) -> Result<Vec<Block>, Error> {
+pub fn cut_anew(file: &[u8]) -> Result<Vec<Block>, Error> {
     demand(file.len() <= LONGEST_FILE, 1, 0)?;
     let mut blocks: Vec<Block> = Vec::new();
     while blocks.is_empty() || end_of(&blocks) < file.len() {
