@@ -83,7 +83,8 @@ fn manifest_text(package: &Path) -> String {
 
 fn main_text() -> String {
     let numbers = 0..FAULTS.len();
-    let modules: Vec<String> = numbers.clone().map(|i| format!("mod {0};\nedf_tests::answer_function!(answer_{i:03}, {0});", name(i))).collect();
+    let module = |i: usize| format!("mod {0};\nedf_tests::answer_function!(answer_{i:03}, {0});", name(i));
+    let modules: Vec<String> = numbers.clone().map(module).collect();
     let readers: Vec<String> = numbers.map(|i| format!("|file, call| Some(answer_{i:03}(file, call))")).collect();
     let titles: Vec<String> = FAULTS.iter().map(|f| format!("({:?}, {:?}, {:?})", f.file, f.old, f.new)).collect();
     format!(

@@ -31,7 +31,7 @@ pub fn dim(random: &mut Random, plan: &mut Plan) -> Option<()> {
     Some(())
 }
 
-/// 19: a fourth Dim, and gaps.
+/// 19: a fourth Dim, and gaps; before a bad configuration.
 pub fn four_dims(random: &mut Random, plan: &mut Plan) -> Option<()> {
     let last = plan.blocks.len() - 1;
     let general = plan.general && random.percent(30);
@@ -44,6 +44,9 @@ pub fn four_dims(random: &mut Random, plan: &mut Plan) -> Option<()> {
     if random.percent(25) {
         let gap = random.pick(&["Dim_1", "Dim_2", "Dim_3"]);
         block.remove(gap.as_bytes());
+    }
+    if random.percent(20) {
+        block.set(b"DataRasterConfiguration", random.pick(&["0", "49", "x"]).as_bytes());
     }
     let value = random.pick(&["1", "", "x", "0"]);
     let holder = if general { &mut plan.blocks[0] } else { block };

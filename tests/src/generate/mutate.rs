@@ -10,8 +10,8 @@ const MUTATIONS: [Mutation; 31] = [
     shapes::lead, shapes::stop, shapes::close, shapes::window, shapes::no_statement, shapes::long, shapes::again, shapes::crowd,
     edf_keys::number, edf_keys::identity, edf_keys::version, edf_keys::first_keys, edf_keys::external, edf_keys::length,
     edf_keys::boundary, edf_keys::header_size, edf_keys::extent, edf_keys::same_identity, edf_keys::many, edf_keys::count,
-    edf_keys::late, edf_keys::blocks, edf_keys::whole_length, fields::word, fields::dim, fields::four_dims, fields::configuration, fields::offset,
-    fields::short_data, fields::long_text, fields::missing,
+    edf_keys::late, edf_keys::blocks, edf_keys::whole_length, fields::word, fields::dim, fields::four_dims,
+    fields::configuration, fields::offset, fields::short_data, fields::long_text, fields::missing,
 ];
 
 /// Draws until a mutation fits the plan.
