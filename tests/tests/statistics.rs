@@ -1,4 +1,5 @@
-//! The generated cases reach every number of refusal, every call's success and every number of blocks often.
+//! The generated cases reach often: every number of refusal, success of every call, both kinds of file, few and many blocks, every type,
+//! every configuration, every class of pixel.
 
 use edf_tests::answer::{answer, Answer, Call};
 use edf_tests::generate::{case, Case};
@@ -38,9 +39,37 @@ fn code(answer: &Answer) -> u8 {
     }
 }
 
+/// What an answer shows beside its code.
+fn features(answer: &Answer) -> Vec<String> {
+    match answer {
+        Answer::Rows(rows) => vec![format!("kind {}", if rows[0].kind == 1 && rows[0].instance == 0 { 1 } else { 2 })],
+        Answer::Description(d) => {
+            let configuration = format!("N {} configuration {}", d.n, d.configuration);
+            vec![format!("type {}", d.data_type), format!("order {}", d.order), configuration]
+        }
+        Answer::Unsigned(_) => vec!["unsigned pixel".to_string()],
+        Answer::Signed(_) => vec!["signed pixel".to_string()],
+        Answer::Float32(_) => vec!["32-bit float pixel".to_string()],
+        Answer::Float64(_) => vec!["64-bit float pixel".to_string()],
+        _ => vec![],
+    }
+}
+
+/// All features, with the least number of cases that are to show each.
+fn all_features() -> Vec<(String, usize)> {
+    let few = ["kind 1", "kind 2", "order 1", "order 2", "unsigned pixel", "signed pixel", "32-bit float pixel", "64-bit float pixel"];
+    let mut all: Vec<(String, usize)> = few.map(|feature| (feature.to_string(), 10 * OFTEN)).to_vec();
+    all.extend((1..=10).map(|code| (format!("type {code}"), 4 * OFTEN)));
+    for (n, configurations) in [(1, 2), (2, 8), (3, 48)] {
+        all.extend((1..=configurations).map(|number| (format!("N {n} configuration {number}"), OFTEN / 5)));
+    }
+    all
+}
+
 /// What one case shows.
 struct Seen {
     outcomes: BTreeSet<Outcome>,
+    features: BTreeSet<String>,
     /// The blocks of a file that opens.
     blocks: Option<usize>,
     calls: usize,
@@ -54,7 +83,8 @@ fn seen(case: &Case) -> Seen {
         _ => None,
     });
     let outcomes = answers.iter().map(|(call, answer)| (name(call), code(answer))).collect();
-    Seen { outcomes, blocks, calls: case.calls.len(), bytes: case.file.len() }
+    let features = answers.iter().flat_map(|(_, answer)| features(answer)).collect();
+    Seen { outcomes, features, blocks, calls: case.calls.len(), bytes: case.file.len() }
 }
 
 /// How many cases show each of some things.
@@ -76,6 +106,12 @@ fn print_by_call(counts: &BTreeMap<Outcome, usize>) {
 #[test]
 fn everything_is_reached_often() {
     let all = parallel::for_each(0..CASES, |number| seen(&case(SEED, number)));
+    check_outcomes(&all);
+    check_blocks(&all);
+    check_features(&all);
+}
+
+fn check_outcomes(all: &[Seen]) {
     let sum = |count: fn(&Seen) -> usize| all.iter().map(count).sum::<usize>();
     println!("seed {SEED}, {CASES} cases, {} calls, {} bytes of files", sum(|s| s.calls), sum(|s| s.bytes));
     let by_call = counts(all.iter().flat_map(|seen| seen.outcomes.iter().copied()));
@@ -89,12 +125,22 @@ fn everything_is_reached_often() {
     for call in ["open", "find", "whole_number", "text", "describe", "read_array", "read_pixel", "escape", "unescape", "write"] {
         assert!(by_call[&(call, 0)] >= 20 * OFTEN, "{call} succeeds");
     }
+}
+
+fn check_blocks(all: &[Seen]) {
     let by_blocks = counts(all.iter().filter_map(|seen| seen.blocks));
-    println!("by blocks {by_blocks:?}");
     for (least, most) in [(1, 1), (2, 4), (5, 12), (13, 127), (128, 252), (253, 255), (256, 256)] {
         let count: usize = by_blocks.range(least..=most).map(|(_, count)| count).sum();
         println!("{least} to {most} blocks: {count} cases");
         assert!(count >= 10, "{least} to {most} blocks: {count}");
+    }
+}
+
+fn check_features(all: &[Seen]) {
+    let by_feature = counts(all.iter().flat_map(|seen| seen.features.iter().cloned()));
+    println!("by feature {by_feature:?}");
+    for (feature, least) in all_features() {
+        assert!(by_feature.get(&feature).is_some_and(|&count| count >= least), "{feature}");
     }
 }
 

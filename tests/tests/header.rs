@@ -1,0 +1,71 @@
+//! The functions that the tests call are all functions of include/edf.h, with the arguments that it gives them.
+
+use std::collections::BTreeMap;
+use std::fs;
+
+/// The types of a function's arguments and of its answer, by its name.
+type Signatures = BTreeMap<String, Vec<String>>;
+
+fn read(path: &str) -> String {
+    fs::read_to_string(format!("{}/{path}", env!("CARGO_MANIFEST_DIR"))).unwrap()
+}
+
+/// A declaration without its `;`: what stands before the arguments, and the arguments.
+fn parts(declaration: &str) -> Option<(&str, Vec<&str>)> {
+    let (before, rest) = declaration.split_once('(')?;
+    let arguments = rest.split_once(')')?.0.split(',').map(str::trim).filter(|argument| !argument.is_empty());
+    Some((before.trim(), arguments.collect()))
+}
+
+/// A C type, `const uint8_t *` for one, as Rust has it.
+fn rust_type(c: &str) -> String {
+    let number = c.trim_start_matches("const ").trim_end_matches('*').trim();
+    let number = match number {
+        "size_t" => "usize",
+        "float" => "f32",
+        "double" => "f64",
+        _ => &number.trim_end_matches("_t").replace("uint", "u").replace("int", "i"),
+    };
+    match (c.starts_with("const "), c.ends_with('*')) {
+        (true, _) => format!("*const {number}"),
+        (false, true) => format!("*mut {number}"),
+        (false, false) => number.to_string(),
+    }
+}
+
+/// The type before a name.
+fn typed(c: &str) -> (&str, &str) {
+    let name = c.rfind([' ', '*', '\n']).map_or(0, |place| place + 1);
+    (c[..name].trim(), &c[name..])
+}
+
+fn of_header(text: &str) -> Signatures {
+    let code: String = text.split("/*").map(|piece| piece.split_once("*/").map_or(piece, |(_, code)| code)).collect();
+    let declarations = code.split(';').filter_map(parts).filter(|(before, _)| before.contains("edf_"));
+    let signature = |(before, arguments): (&str, Vec<&str>)| {
+        let (answer, name) = typed(before);
+        let types = arguments.iter().map(|argument| rust_type(typed(argument).0)).chain([rust_type(answer)]);
+        (name.to_string(), types.collect())
+    };
+    declarations.map(signature).collect()
+}
+
+fn of_tests(text: &str) -> Signatures {
+    let block = text.split_once("extern \"C\" {").unwrap().1.split_once("\n}\n").unwrap().0;
+    let signature = |declaration: &str| {
+        let (before, arguments) = parts(declaration)?;
+        let answer = declaration.split_once("->")?.1.trim();
+        let types = arguments.iter().filter_map(|argument| argument.split_once(": ")).map(|(_, kind)| kind);
+        Some((before.strip_prefix("fn ")?.to_string(), types.chain([answer]).map(str::to_string).collect()))
+    };
+    block.split(';').filter_map(signature).collect()
+}
+
+#[test]
+fn the_same_functions() {
+    let header = of_header(&read("../include/edf.h"));
+    println!("{header:?}");
+    assert_eq!(header, of_tests(&read("src/library.rs")));
+    assert!(header.len() >= 10);
+    assert_eq!(header["edf_find"], ["*const u8", "usize", "usize", "*const u8", "usize", "*mut usize", "*mut usize", "*mut usize", "u8"]);
+}
