@@ -17,7 +17,9 @@ pub enum Call {
     Escape { text: Vec<u8>, room: usize },
     Unescape { value: Vec<u8>, room: usize },
     Write { frame: Frame, title: Vec<u8>, pixels: Vec<u8>, room: usize },
-    List,
+    List { room: usize },
+    /// The lister itself, with the file as its input.
+    Print,
 }
 
 /// An answer of one call. Floats are their bits, and none for NaN: "compare as is NaN only".
@@ -117,7 +119,8 @@ macro_rules! answer_function {
                     };
                     $reader::write(frame, title, pixels, *room).map(Answer::Bytes)
                 }
-                Call::List => Ok(Answer::Bytes($reader::list(file))),
+                Call::List { room } => $reader::list(file, *room).map(Answer::Bytes),
+                Call::Print => Ok(Answer::Bytes($reader::printed(file))),
             };
             answer.unwrap_or_else(|e| Answer::Failed { code: e.code, position: e.position })
         }
@@ -140,7 +143,9 @@ mod tests {
     #[test]
     fn refusals_and_answers() {
         assert_eq!(answer(b"", &Call::Open { rows: 255 }), Answer::Failed { code: 2, position: 0 });
-        assert_eq!(answer(b"", &Call::List), Answer::Bytes(b"refused 3 0\n".to_vec()));
+        assert_eq!(answer(b"", &Call::List { room: 12 }), Answer::Bytes(b"refused 3 0\n".to_vec()));
+        assert_eq!(answer(b"", &Call::List { room: 11 }), Answer::Failed { code: 22, position: 0 });
+        assert_eq!(answer(b"", &Call::Print), Answer::Bytes(b"refused 3 0\n".to_vec()));
         assert_eq!(answer(b"abc", &Call::Part { start: 1, length: 2 }), Answer::Bytes(b"bc".to_vec()));
     }
 }

@@ -53,6 +53,11 @@ pub fn read_pixel(file: &[u8], block: usize, i1: usize, i2: usize, i3: usize) ->
     reader::read_pixel(file, block, i1, i2, i3)
 }
 
+pub fn list(file: &[u8], room: usize) -> Result<Vec<u8>, Error> {
+    both(file, &Call::List { room });
+    reader::list(file, room)
+}
+
 pub fn escape(text: &[u8], room: usize) -> Result<Vec<u8>, Error> {
     both(b"", &Call::Escape { text: text.to_vec(), room });
     reader::escape(text, room)

@@ -39,6 +39,10 @@ extern "C" {
         file: *const u8, file_length: usize, block: usize, i1: usize, i2: usize, i3: usize, class: *mut u8,
         unsigned: *mut u64, signed: *mut i64, float32: *mut f32, float64: *mut f64, position: *mut usize,
     ) -> u8;
+    fn edf_part(file: *const u8, file_length: usize, offset: usize, length: usize) -> usize;
+    fn edf_list(
+        file: *const u8, file_length: usize, out: *mut u8, out_length: usize, length: *mut usize, position: *mut usize,
+    ) -> u8;
     fn edf_write(
         sequence: i64, instance: u8, memory: i64, datatype: u8, byteorder: u8, n: u8, dim1: usize, dim2: usize,
         dim3: usize, configuration: u32, title: *const u8, title_length: usize, pixels: *const u8, pixels_length: usize,
@@ -197,7 +201,17 @@ fn write(f: &Frame, title: &[u8], pixels: &[u8], room: usize) -> Answer {
     })
 }
 
-/// What the library answers to a call; none to `part` and `list`, which it does not have for C.
+/// The bytes at `start`, as many as the library says.
+fn part(file: &[u8], start: usize, length: usize) -> Answer {
+    let count = unsafe { edf_part(file.as_ptr(), file.len(), start, length) };
+    match (count, file.get(start..start.saturating_add(count))) {
+        (0, _) => Answer::Bytes(vec![]),
+        (_, Some(bytes)) => Answer::Bytes(bytes.to_vec()),
+        (_, None) => Answer::Broken("a part that is not inside the file"),
+    }
+}
+
+/// What the library answers to a call; none for the lister, which is a program.
 pub fn answer(file: &[u8], call: &Call) -> Option<Answer> {
     let (bytes, size) = (file.as_ptr(), file.len());
     Some(match call {
@@ -219,7 +233,11 @@ pub fn answer(file: &[u8], call: &Call) -> Option<Answer> {
             edf_unescape(value.as_ptr(), value.len(), out, room, length, position)
         }),
         Call::Write { frame, title, pixels, room } => write(frame, title, pixels, *room),
-        Call::Part { .. } | Call::List => return None,
+        Call::Part { start, length } => part(file, *start, *length),
+        Call::List { room } => into_buffer(*room, |out, room, length, position| unsafe {
+            edf_list(bytes, size, out, room, length, position)
+        }),
+        Call::Print => return None,
     })
 }
 

@@ -1,7 +1,7 @@
 //! The examples of 01, "Examples both sides", one by one, by the second reader and by the library.
 
 use edf_tests::both::*;
-use edf_tests::reader::{list, orders, Error, Frame, Pixel};
+use edf_tests::reader::{orders, Error, Frame, Pixel};
 
 fn padded(body: &str, length: usize) -> Vec<u8> {
     let mut header = format!("{{{body}").into_bytes();
@@ -70,7 +70,7 @@ fn listing_of_the_writers_file() {
     };
     let written = write(frame, b"x;", &[0, 1, 0, 2, 0, 3, 0, 4, 0, 5, 0, 6], 1_024).unwrap();
     let expected = "blocks 1\n0 0 512 512 1.Image.Psd UnsignedShort HighByteFirst 3x2 6 1 0\n";
-    assert_eq!(list(&written), expected.as_bytes());
+    assert_eq!(list(&written, expected.len()), Ok(expected.as_bytes().to_vec()));
 }
 
 /// "Slips to catch".

@@ -1,8 +1,7 @@
 //! Every fixture: its listing, byte for byte, and every call on it, by the second reader and by the library.
 
-use edf_tests::both::both;
+use edf_tests::both::{both, list};
 use edf_tests::generate::thorough::every_call;
-use edf_tests::reader::list;
 use std::fs;
 use std::path::{Path, PathBuf};
 
@@ -19,7 +18,7 @@ fn fixtures() -> Vec<PathBuf> {
 fn every_listing() {
     for path in fixtures() {
         let expected = fs::read(path.with_extension("list")).unwrap();
-        let listed = list(&fs::read(&path).unwrap());
+        let listed = list(&fs::read(&path).unwrap(), expected.len()).unwrap();
         assert_eq!(String::from_utf8_lossy(&listed), String::from_utf8_lossy(&expected), "{}", path.display());
     }
 }

@@ -164,6 +164,8 @@ fn twenty_two_to_twenty_five() {
     assert_eq!(outcome(text(&title, 0, b"a", 1_023)), GOOD);
     assert_eq!(outcome(text(&title, 0, b"a", 1_022)), (22, 0));
     assert_eq!(outcome(text(&title, 0, b"b", 0)), (25, 0));
+    assert_eq!(outcome(list(&file, 65)), GOOD);
+    assert_eq!(outcome(list(&file, 64)), (22, 0));
 }
 
 /// A file that is written has at most 1,073,741,824 bytes: 512 of header and 172,544 times 6,223 pixels, and one pixel more.

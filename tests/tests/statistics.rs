@@ -26,7 +26,8 @@ fn name(call: &Call) -> &'static str {
         Call::Escape { .. } => "escape",
         Call::Unescape { .. } => "unescape",
         Call::Write { .. } => "write",
-        Call::List => "list",
+        Call::List { .. } => "list",
+        Call::Print => "print",
     }
 }
 
@@ -122,7 +123,7 @@ fn check_outcomes(all: &[Seen]) {
     for code in 0..=25 {
         assert!(by_code.get(&code).is_some_and(|&count| count >= OFTEN), "code {code}");
     }
-    for call in ["open", "find", "whole_number", "text", "describe", "read_array", "read_pixel", "escape", "unescape", "write"] {
+    for call in ["open", "find", "whole_number", "text", "describe", "read_array", "read_pixel", "escape", "unescape", "write", "list"] {
         assert!(by_call[&(call, 0)] >= 20 * OFTEN, "{call} succeeds");
     }
 }

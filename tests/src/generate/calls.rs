@@ -7,13 +7,13 @@ use super::random::Random;
 use super::values::value_calls;
 use super::words::KEYS;
 use crate::answer::Call;
-use crate::reader::{describe, find, open, read_array, text};
+use crate::reader::{describe, find, list, open, read_array, text};
 
 const ROOMY: usize = 1 << 31;
 
 /// The calls for a file made from a plan.
 pub fn calls(random: &mut Random, plan: &Plan, file: &[u8]) -> Vec<Call> {
-    let mut calls = vec![Call::Open { rows: random.pick(&[256, 256, 256, 257, 1_000]) }, Call::List];
+    let mut calls = vec![Call::Open { rows: random.pick(&[256, 256, 256, 257, 1_000]) }, Call::Print];
     if random.percent(3) {
         calls.push(Call::Open { rows: random.pick(&[0, 1, 255]) });
     }
@@ -23,6 +23,8 @@ pub fn calls(random: &mut Random, plan: &Plan, file: &[u8]) -> Vec<Call> {
         let block = block(random, count);
         block_calls(random, plan, file, block, &mut calls);
     }
+    let length = list(file, ROOMY).map_or(0, |text| text.len());
+    calls.push(Call::List { room: room(random, length) });
     calls.push(part_call(random, file));
     calls.extend(value_calls(random));
     calls

@@ -2,7 +2,7 @@
 
 use crate::answer::Call;
 use crate::reader::opening::cut_anew;
-use crate::reader::{describe, read_array, text};
+use crate::reader::{describe, list, read_array, text};
 
 const ROOMY: usize = 1 << 31;
 
@@ -22,6 +22,8 @@ pub fn every_call(file: &[u8]) -> Vec<Call> {
     }
     calls.extend(blocks.iter().flat_map(|block| &block.statements).flat_map(|s| part_calls(s.value.start, s.value.length)));
     calls.extend(part_calls(0, file.len()));
+    let length = list(file, ROOMY).map_or(1, |text| text.len());
+    calls.extend([0, 1, length - 1, length, length + 9].map(|room| Call::List { room }));
     calls
 }
 

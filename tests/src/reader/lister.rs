@@ -2,7 +2,7 @@
 
 use super::describe::{describe_in, Description};
 use super::element::{type_of, BYTE_ORDERS};
-use super::error::Error;
+use super::error::{demand, Error};
 use super::identity::identity_text;
 use super::memo::cut;
 use super::opening::Block;
@@ -11,14 +11,26 @@ use super::rules::Role;
 /// "It reads standard input, up to 65,536 bytes (more: `refused 1 0`)."
 const LONGEST_INPUT: usize = 65_536;
 
-/// What the lister prints for a file.
-pub fn list(file: &[u8]) -> Vec<u8> {
-    if file.len() > LONGEST_INPUT {
+/// What the lister prints for its input.
+pub fn printed(input: &[u8]) -> Vec<u8> {
+    if input.len() > LONGEST_INPUT {
         return b"refused 1 0\n".to_vec();
     }
+    listing(input)
+}
+
+/// The listing of a file of any length; 22 where the room is too small.
+pub fn list(file: &[u8], room: usize) -> Result<Vec<u8>, Error> {
+    let text = listing(file);
+    demand(text.len() <= room, 22, 0)?;
+    Ok(text)
+}
+
+/// "A file that does not open gives one line only".
+fn listing(file: &[u8]) -> Vec<u8> {
     let lines = match cut(file) {
         Err(error) => vec![refusal(error)],
-        Ok(blocks) => listing(file, &blocks),
+        Ok(blocks) => lines(file, &blocks),
     };
     lines.into_iter().flat_map(|line| format!("{line}\n").into_bytes()).collect()
 }
@@ -29,7 +41,7 @@ fn refusal(error: Error) -> String {
 }
 
 /// "It prints `blocks` and the count, then a line per block".
-fn listing(file: &[u8], blocks: &[Block]) -> Vec<String> {
+fn lines(file: &[u8], blocks: &[Block]) -> Vec<String> {
     let count = format!("blocks {}", blocks.len());
     let lines = (0..blocks.len()).map(|block| block_line(file, blocks, block));
     [count].into_iter().chain(lines).collect()
@@ -73,7 +85,7 @@ mod tests {
     use super::*;
 
     fn listed(file: &[u8]) -> String {
-        String::from_utf8(list(file)).unwrap()
+        String::from_utf8(printed(file)).unwrap()
     }
 
     #[test]
@@ -100,5 +112,18 @@ mod tests {
         assert_eq!(listed(&vec![0; 65_537]), "refused 1 0\n");
         assert_eq!(listed(&vec![0; 65_536]), "refused 3 0\n");
         assert_eq!(listed(&padded("", 65_536)).lines().next(), Some("blocks 1"));
+    }
+
+    #[test]
+    fn the_library_has_no_limit_of_input_but_one_of_room() {
+        let file = padded("", 512).repeat(129);
+        assert_eq!(printed(&file), b"refused 1 0\n");
+        let text = list(&file, usize::MAX).unwrap();
+        assert!(text.starts_with(b"blocks 129\n0 0 512 0 - FloatIEEE32 HighByteFirst 0 1 1 0\n1 512 512 0 - "));
+        assert_eq!(list(&file, text.len()), Ok(text.clone()));
+        assert_eq!(list(&file, text.len() - 1), Err(Error { code: 22, position: 0 }));
+        assert_eq!(list(b"", 12), Ok(b"refused 3 0\n".to_vec()));
+        assert_eq!(list(b"", 11), Err(Error { code: 22, position: 0 }));
+        assert_eq!(list(b"", 0), Err(Error { code: 22, position: 0 }));
     }
 }

@@ -27,7 +27,7 @@ pub use array::read_array;
 pub use describe::{describe, Description};
 pub use error::Error;
 pub use keywords::{find, whole_number};
-pub use lister::list;
+pub use lister::{list, printed};
 pub use opening::{open, Row};
 pub use pixel::{read_pixel, Pixel};
 pub use span::{part, Span};
