@@ -151,6 +151,10 @@ pub const FAULTS: &[Fault] = &[
     fault("lister.rs", "LONGEST_INPUT: usize = 65_536", "LONGEST_INPUT: usize = 65_535"),
     fault("lister.rs", "LONGEST_INPUT: usize = 65_536", "LONGEST_INPUT: usize = 65_537"),
     fault("lister.rs", r#"dims.join("x")"#, r#"dims.join(",")"#),
+    fault("lister.rs", "text.len() <= room, 22, 0", "text.len() < room, 22, 0"),
+    fault("lister.rs", "text.len() <= room, 22, 0", "text.len() <= room, 22, text.len()"),
+    fault("lister.rs", r#"(Role::General, _) => "general""#, r#"(Role::General, _) => "-""#),
+    fault("lister.rs", "named} {}\", refusal(error)", "named} {}\", refusal(Error { position: 0, ..error })"),
     fault("lister.rs", "d.configuration, d.orientation", "d.orientation, d.configuration"),
     // The order of checks.
     fault("statement.rs", "demand(statements.iter().all(|s| lengths_kept(file, s)), 7,", "demand(statements.iter().all(|s| lengths_kept(file, s)), if any_key_twice(&statements) { 8 } else { 7 },"),
