@@ -5,12 +5,10 @@ use mathlib.Core.List.{List, [], _∷_}
 use mathlib.Core.Option.{Option, none, some, Option·map}
 use Prim.Native.Nat.{ℕ, suc, _+_, _-_, _≤_, _<_}
 use native.Mathlib.Numerals.{add-one}
-use borrow.Author.Tests.{le-leb, lt-leb}
 use lib.Dec.{leb}
 use lib.ListN.{length, take, drop}
 use Rattle.scan.specs.Byte.{between}
 use Rattle.scan.specs.Outcome.{Outcome, ok, refused, require, present, _>>=_}
-use Rattle.scan.specs.declared.Span.{Span}
 use Rattle.scan.proofs.Parts.{lent-between}
 use Rattle.text.specs.Key.{keyOf}
 use Rattle.text.specs.Text.{every}
@@ -77,29 +75,28 @@ module _ (s : List ℕ) (t : Statement) where
   abbrev lentValue : List ℕ
   lentValue = take (t .end - (t .equals + 1)) (drop (t .equals + 1) s)
 
-  key-measured : {n : ℕ} → n ≡ length (keyOf lentKey) → length (key s t) ≡ n
+  key-measured : leb (length (keyOf lentKey)) 64 ≡ leb (length (key s t)) 64
   unfolding key
-  key-measured e = sym (e ∙ ap (λ (l : List ℕ). length (keyOf l)) (lent-between s (t .first) (t .equals)))
+  key-measured = ap (λ (l : List ℕ). leb (length (keyOf l)) 64) (lent-between s (t .first) (t .equals))
 
-  value-measured : {p : Span} → p ≡ trimmed lentValue → trimmedLength s t ≡ p .length
+  value-measured : leb (trimmed lentValue .length) 2048 ≡ leb (trimmedLength s t) 2048
   unfolding trimmedLength
-  value-measured e =
-      sym (ap (λ (p : Span). p .length) e
-      ∙ ap (λ (l : List ℕ). trimmed l .length)
-      (lent-between s (t .equals + 1) (t .end) ∙ ap (λ (k : ℕ). between s k (t .end)) (add-one (t .equals))))
+  value-measured =
+      ap (λ (l : List ℕ). leb (trimmed l .length) 2048)
+      (lent-between s (t .equals + 1) (t .end) ∙ ap (λ (k : ℕ). between s k (t .end)) (add-one (t .equals)))
 
   module _ {b : Bool} where
     pub not-short : b ≡ false → false ≡ (b && isShort s t)
     not-short e = rw e
 
-    pub key-too-long : {n : ℕ} → b ≡ true → n ≡ length (keyOf lentKey) → 64 < n → false ≡ (b && isShort s t)
+    pub key-too-long : {r : Bool} → b ≡ true → r ≡ leb (length (keyOf lentKey)) 64 → r ≡ false → false ≡ (b && isShort s t)
     unfolding isShort
-    key-too-long {n} e k h = rw (e, key-measured k, lt-leb n 64 h)
+    key-too-long e k n = rw (e, sym (sym n ∙ k ∙ key-measured))
 
-    pub by-value : {n : ℕ} {p : Span} → b ≡ true → n ≡ length (keyOf lentKey) → n ≤ 64 → p ≡ trimmed lentValue
-        → leb (p .length) 2048 ≡ (b && isShort s t)
+    pub by-value : {r q : Bool} → b ≡ true → r ≡ leb (length (keyOf lentKey)) 64 → r ≡ true
+        → q ≡ leb (trimmed lentValue .length) 2048 → q ≡ (b && isShort s t)
     unfolding isShort
-    by-value {n} {p} e k h v = rw (e, key-measured k, le-leb n 64 h, value-measured v)
+    by-value e k y v = rw (e, sym (sym y ∙ k ∙ key-measured)) (v ∙ value-measured)
 
 -- Where a statement lies that starts at an offset.
 pub record Lies (s : List ℕ) (at : ℕ) (t : Statement) : Type 0 where

@@ -7,9 +7,12 @@ use scan::Found;
 ghost use mathlib.Core.Path.{_≡_};
 ghost use mathlib.Core.Bool.{_&&_};
 ghost use Prim.Native.Nat.{_≤_, _<_};
+ghost use lib.Dec.{leb};
 ghost use lib.ListN.{length};
 ghost use Rattle.scan.specs.Outcome.{failed, errorAt};
 ghost use Rattle.scan.specs.Search.{firstFrom};
+ghost use Rattle.text.specs.Key.{keyOf};
+ghost use Rattle.text.specs.Value.{trimmed};
 ghost use Rattle.header.specs.Answers.{checkedOutcome};
 ghost use Rattle.header.specs.Checks.{separator, shapeChecked};
 ghost use Rattle.header.specs.Statements.{statementAt, isShort};
@@ -62,6 +65,27 @@ pub fn statement_at(s: &[u8], at: usize) -> Next
     })
 }
 
+// Whether a key, here with its whitespace, has at most 64 characters. Its bytes are looked at only if there are more.
+fn is_short_key(k: &[u8]) -> bool
+    ensures { λ r. ⌜ r ≡ leb (length (keyOf (now (k .entry)))) 64 ⌝ }
+{
+    if k.len() <= 64 {
+        return true;
+    }
+    text::key::key_length(k) <= 64
+}
+
+// Whether a value, here before it is trimmed, has at most 2,048 bytes; as above.
+fn is_short_value(v: &[u8]) -> bool
+    ensures { λ r. ⌜ r ≡ leb (trimmed (now (v .entry)) .length) 2048 ⌝ }
+{
+    if v.len() <= 2048 {
+        return true;
+    }
+    let p = text::value::trimmed_span(v);
+    p.length <= 2048
+}
+
 // Whether `short` holds and the key and the value of a statement are not too long.
 fn still_short(s: &[u8], t: Statement, short: bool) -> bool
     requires { ⌜ (t .first ≤ t .equals) × (t .equals < t .end) × (t .end < length (now s)) ⌝ }
@@ -72,13 +96,12 @@ fn still_short(s: &[u8], t: Statement, short: bool) -> bool
     }
     let first = t.first;
     let equals = t.equals;
-    if 64 < text::key::key_length(&s[first..equals]) {
+    if !is_short_key(&s[first..equals]) {
         return false;
     }
     let value = equals + 1;
     let end = t.end;
-    let trimmed = text::value::trimmed_span(&s[value..end]);
-    trimmed.length <= 2048
+    is_short_value(&s[value..end])
 }
 
 // An answer that a check fails.
