@@ -1,3 +1,4 @@
+pub mod BodySearch
 pub mod CheckSteps
 pub mod Checks
 pub mod FrameLaws
