@@ -1,5 +1,4 @@
 pub mod BodySearch
-pub mod CheckSteps
 pub mod Checks
 pub mod FrameLaws
 pub mod FrameParts
@@ -9,6 +8,7 @@ pub mod HeaderErrors
 pub mod KeyLaws
 pub mod Laid
 pub mod Leading
+pub mod Lengths
 pub mod LookupLaws
 pub mod OneStatement
 pub mod Prefix
@@ -18,4 +18,5 @@ pub mod Spans
 pub mod StatementLaws
 pub mod StatementSteps
 pub mod Unambiguous
+pub mod Walk
 pub mod Window

@@ -1,9 +1,9 @@
--- `header::statements::still_short` meets its contract: the lent parts are the key and the value before trimming.
+-- `header::check::still_short` meets its contract: the lent parts are the key and the value before trimming.
 use borrow.Author.Tests.{not-true, not-false}
-use Rattle.header.proofs.CheckSteps.{not-short, key-too-long, by-value}
+use Rattle.header.proofs.Lengths.{not-short, key-too-long, by-value}
 use borrow.Author.Needs.{needs}
-use Rattle.header.proofs.statements.still_short.Statement.{statement}
-use Rattle.header.proofs.statements.still_short.Tie as tie
+use Rattle.header.proofs.check.still_short.Statement.{statement}
+use Rattle.header.proofs.check.still_short.Tie as tie
 
 returns : tie.Need-returns
 returns c = not-short _ _ (not-true (c .before .before .args .short) (c .if1 .taken))

@@ -1,4 +1,4 @@
--- `header::statements::is_short_value` meets its contract: trimming leaves no more bytes.
+-- `header::check::is_short_value` meets its contract: trimming leaves no more bytes.
 use mathlib.Core.Path.{sym, ap}
 use native.Mathlib.Omega.{arith}
 use borrow.Author.Needs.{needs}
@@ -7,8 +7,8 @@ use lib.Dec.{leb}
 use Rattle.scan.specs.declared.Span.{Span}
 use Rattle.text.specs.Value.{trimmed}
 use Rattle.text.proofs.Trims.{trimmed-fits}
-use Rattle.header.proofs.statements.is_short_value.Statement.{statement}
-use Rattle.header.proofs.statements.is_short_value.Tie as tie
+use Rattle.header.proofs.check.is_short_value.Statement.{statement}
+use Rattle.header.proofs.check.is_short_value.Tie as tie
 
 returns : tie.Need-returns
 returns c =

@@ -1,4 +1,4 @@
--- `header::statements::is_short_key` meets its contract: a key has no more characters than bytes.
+-- `header::check::is_short_key` meets its contract: a key has no more characters than bytes.
 use mathlib.Core.Path.{sym, ap}
 use Prim.Native.Nat.{ℕ}
 use native.Mathlib.Omega.{arith}
@@ -8,8 +8,8 @@ use lib.Dec.{leb}
 use lib.ListN.{length}
 use Rattle.text.specs.Key.{keyOf}
 use Rattle.header.proofs.KeyLaws.{key-shorter}
-use Rattle.header.proofs.statements.is_short_key.Statement.{statement}
-use Rattle.header.proofs.statements.is_short_key.Tie as tie
+use Rattle.header.proofs.check.is_short_key.Statement.{statement}
+use Rattle.header.proofs.check.is_short_key.Tie as tie
 
 returns : tie.Need-returns
 returns c =
