@@ -57,8 +57,8 @@ fn still_short(s: &[u8], t: Statement, short: bool) -> bool
     is_short_value(&s[value..end])
 }
 
-// Whether `distinct` holds and t's key is none of those of the statements from `from` on before t. As long as `distinct` holds the
-// table contains the hashes of these keys, and then also that of t's.
+// Whether `distinct` holds and the key of the statement t is none of those of the statements from `from` up to t. As long as it holds
+// the table contains the hashes of these keys, and then that of t's too.
 fn still_distinct(
     s: &[u8],
     from: usize,
@@ -101,7 +101,7 @@ fn answer(short: bool, distinct: bool, start: usize) -> Checked
     Checked::Good
 }
 
-// With a table that is lent. It may hold anything at first.
+// The checks with a table that is lent, whatever it holds at first.
 fn check_with(s: &[u8], from: usize, start: usize, table: &mut [u64], slots: u32) -> Checked
     ensures { λ r. ⌜ checkedOutcome r ≡ statementsChecked (now (s .entry)) from start ⌝ }
 {
@@ -125,7 +125,7 @@ fn check_with(s: &[u8], from: usize, start: usize, table: &mut [u64], slots: u32
     }
 }
 
-// The last 64 slots are for probes that start near the end, which do not wrap around.
+// The last 64 slots of the table are for probes that start near the end, which do not wrap around.
 fn check_with_small_table(s: &[u8], from: usize, start: usize) -> Checked
     ensures { λ r. ⌜ checkedOutcome r ≡ statementsChecked (now (s .entry)) from start ⌝ }
 {
