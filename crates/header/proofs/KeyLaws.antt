@@ -1,4 +1,5 @@
--- A key has a character exactly if a byte that is no whitespace stands before the `=`.
+-- How long a key is: it has a character exactly if a byte that is no whitespace stands before the `=`, and no more characters
+-- than bytes stand there.
 use mathlib.Core.Path.{_≡_, refl}
 use mathlib.Core.Bool.{true}
 use mathlib.Core.List.{List, [], _∷_}
@@ -30,6 +31,16 @@ strip-none [] h = refl
 strip-none (b ∷ bs) h =
     rw (not-false (whitespace b) (h 0 zero-le (suc-le-suc zero-le)))
     (strip-none bs (λ k l u. h (suc k) zero-le (suc-le-suc u)))
+
+strip-shorter : (l : List ℕ) → length (strip l) ≤ length l
+unfolding strip
+strip-shorter [] = zero-le
+strip-shorter (b ∷ bs) =
+    by-test (whitespace b) (λ w. rw w (omega (arith, strip-shorter bs))) (λ w. rw w (suc-le-suc (strip-shorter bs)))
+
+pub key-shorter : (l : List ℕ) → length (keyOf l) ≤ length l
+unfolding keyOf
+key-shorter l = rw (length-map (strip l) fold) (strip-shorter l)
 
 -- A byte of a part of the file.
 pub between-at : (s : List ℕ) (from to k : ℕ) → from + k < to → byte (between s from to) k ≡ byte s (from + k)

@@ -1,6 +1,6 @@
 -- The leading statements: an equation without a count, and the statements of a well-formed body.
 use mathlib.Core.Path.{_≡_, refl, ap, sym, _∙_}
-use mathlib.Core.List.{List, [], _∷_, _++_}
+use mathlib.Core.List.{List, [], _∷_}
 use mathlib.Core.Option.{some}
 use Prim.Native.Nat.{ℕ, zero, suc, _+_, _-_, _≤_, _<_}
 use native.Mathlib.Omega.{arith}
@@ -10,7 +10,6 @@ use Rattle.scan.proofs.Finds.{Finds, found}
 use Rattle.text.specs.Key.{keyOf}
 use Rattle.header.specs.Entry.{key}
 use Rattle.header.specs.Grammar.{StatementFrom, OnlyWhitespace}
-use Rattle.header.specs.Repeats.{StatementsTo}
 use Rattle.header.specs.Statements.{statementAt, statementsFrom, followed, leadingWithin, leadingStatements}
 use Rattle.header.specs.declared.Next.{Next}
 use Rattle.header.specs.declared.Next.the-variants.{One, End, Malformed}
@@ -114,10 +113,3 @@ module _ (s : List ℕ) where
   -- All statements of a well-formed body lead.
   pub leading-is : (at : ℕ) (ts : List Statement) → statementsFrom s at ≡ some ts → leadingStatements s at ≡ ts
   leading-is at ts e = leading-chain at ts (out (rw e at (finds-statements s at)))
-
-  -- Statements up to an offset, and those that lead from there.
-  pub leading-append : (at to : ℕ) (ts : List Statement) → StatementsTo s at ts to
-      → leadingStatements s at ≡ ts ++ leadingStatements s to
-  leading-append at to [] c = ap (leadingStatements s) c
-  leading-append at to (t ∷ ts) c =
-      leading-one (c .1) ∙ ap (λ (us : List Statement). t ∷ us) (leading-append (c .0) to ts (c .2))

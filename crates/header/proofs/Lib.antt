@@ -1,4 +1,4 @@
-pub mod CheckSteps
+pub mod BodySearch
 pub mod Checks
 pub mod FrameLaws
 pub mod FrameParts
@@ -8,6 +8,7 @@ pub mod HeaderErrors
 pub mod KeyLaws
 pub mod Laid
 pub mod Leading
+pub mod Lengths
 pub mod LookupLaws
 pub mod OneStatement
 pub mod Prefix
@@ -17,4 +18,5 @@ pub mod Spans
 pub mod StatementLaws
 pub mod StatementSteps
 pub mod Unambiguous
+pub mod Walk
 pub mod Window

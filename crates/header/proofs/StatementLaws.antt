@@ -69,6 +69,10 @@ module _ (s : List ℕ) where
   unfolding statementsFrom
   finds-statements at = finds-within (length s) at (omega arith)
 
+  pub statements-are : (at : ℕ) (ts : List Statement) → EndToEnd at ts → statementsFrom s at ≡ some ts
+  statements-are at ts c =
+      finds-some (finds-statements at) (λ us. chain-unique (statements-sure s) at us ts) c
+
   -- Where it finds none, they break off.
   broken-more : {at : ℕ} {t : Statement} → StatementFrom s at t (suc (t .end)) → Broken s (suc (t .end)) → Broken s at
   broken-more {t = t} h b = record {
@@ -101,7 +105,7 @@ module _ (s : List ℕ) where
   statements-broken at e = within-broken (length s) at (omega arith) e
 
   -- And where they break off, no others stand.
-  pub broken-none : {at : ℕ} → Broken s at → (us : List Statement) → EndToEnd at us → ⊥
+  broken-none : {at : ℕ} → Broken s at → (us : List Statement) → EndToEnd at us → ⊥
   broken-none {at} b us c = go at (b .statements) us (b .before) c
     where
       go : (at : ℕ) (ts us : List Statement) → Chain (StatementFrom s) (λ k. k ≡ b .end) at ts → EndToEnd at us → ⊥
@@ -110,29 +114,8 @@ module _ (s : List ℕ) where
       go at (t ∷ ts) [] d w = not-only-whitespace s (d .1) w
       go at (t ∷ ts) (u ∷ us) d f = go (d .0) ts us (d .2) (rw (statement-unique s (d .1) (f .1) .1) (f .2))
 
-  -- Any count that is large enough gives the same,
-  continued-same : (at : ℕ) (next : Next) (go on : ℕ → Option (List Statement)) → NextSays s at next
-      → ((k : ℕ) → at < k → k ≤ length s → go k ≡ on k) → continued next go ≡ continued next on
-  continued-same at (One t) go on h e =
-      let l = statement-inside h in
-      ap (Option·map (λ (ts : List Statement). t ∷ ts)) (e (suc (t .end)) (omega (arith, l)) (l .1))
-  continued-same at End go on h e = refl
-  continued-same at Malformed go on h e = refl
-
-  enough : (m n at : ℕ) → at ≤ length s → length s < at + m → length s < at + n
-      → statementsWithin m s at ≡ statementsWithin n s at
-  unfolding statementsWithin
-  enough zero n at i h l = absurd (omega arith)
-  enough (suc m) zero at i h l = absurd (omega arith)
-  enough (suc m) (suc n) at i h l =
-      continued-same at (statementAt s at) _ _ (statement-says s at) (λ k a b. enough m n k b (omega arith) (omega arith))
-
-  -- so that `statementsFrom` has an equation without one.
-  pub statements-step : (at : ℕ) → statementsFrom s at ≡ continued (statementAt s at) (λ next. statementsFrom s next)
-  unfolding statementsFrom statementsWithin
-  statements-step at =
-      continued-same at (statementAt s at) _ _ (statement-says s at)
-      (λ k a b. enough (length s) (suc (length s)) k b (omega arith) (omega arith))
+  pub statements-none : {at : ℕ} → Broken s at → statementsFrom s at ≡ none
+  statements-none {at} b = finds-none (finds-statements at) (broken-none b)
 
 -- ---- The statements of a header
 
@@ -164,25 +147,20 @@ module _ (s : List ℕ) (at : ℕ) (h : Header) where
   -- Each case has its answer.
   pub malformed-answer : BrokenBody s h → statementsOf s at h ≡ refused 6 at
   unfolding statementsOf
-  malformed-answer b = rw (finds-none (finds-statements body (suc (h .left))) (broken-none body b))
-
-  shape-is : (ts : List Statement) → Statements s h ts → statementsFrom body (suc (h .left)) ≡ some ts
-  shape-is ts c =
-      finds-some (finds-statements body (suc (h .left)))
-      (λ us. chain-unique (statements-sure body) (suc (h .left)) us ts) c
+  malformed-answer b = rw (statements-none body b)
 
   pub too-long-answer : TooLong s h → statementsOf s at h ≡ refused 7 at
   unfolding statementsOf
   too-long-answer l =
       let ts = l .statements in
-      rw (shape-is ts (l .shape), rejects (all-short-decides body ts) (λ all. l .long (all (l .statement) (l .member))))
+      rw (statements-are body (suc (h .left)) ts (l .shape), rejects (all-short-decides body ts) (λ all. l .long (all (l .statement) (l .member))))
 
   pub key-twice-answer : KeyTwice s h → statementsOf s at h ≡ refused 8 at
   unfolding statementsOf
   key-twice-answer k =
       let ts = k .statements in
       rw (
-        shape-is ts (k .shape),
+        statements-are body (suc (h .left)) ts (k .shape),
         passes (all-short-decides body ts) (k .short),
         rejects (distinct-decides (map (key body) ts)) (k .twice),
       )
@@ -191,7 +169,7 @@ module _ (s : List ℕ) (at : ℕ) (h : Header) where
   unfolding statementsOf
   statements-complete {ts} p =
       rw (
-        shape-is ts (p .shape),
+        statements-are body (suc (h .left)) ts (p .shape),
         passes (all-short-decides body ts) (p .short),
         passes (distinct-decides (map (key body) ts)) (p .distinct),
       )

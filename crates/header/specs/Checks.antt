@@ -1,4 +1,4 @@
--- The checks of a header's statements that the code makes apart: their shape and lengths, errors 6 and 7.
+-- The checks of a header's statements as the code answers them: errors 6, 7 and 8, without the statements.
 use mathlib.Core.Bool.{Bool, _||_}
 use mathlib.Core.List.{List, map}
 use Prim.Native.Nat.{ℕ}
@@ -12,16 +12,13 @@ use Rattle.header.specs.Statements.{statementsFrom, isShort, areDistinct
 unfoldable pub separator : ℕ → Bool
 separator b = eqb b 61 || eqb b 59
 
+-- Of statements that are well formed, by whether all are short and whether their keys are distinct: error 7 before error 8.
+abbrev pub rulesChecked : Bool → Bool → ℕ → Outcome (Unit {0})
+rulesChecked short distinct start = require short 7 start >> require distinct 8 start
+
 -- The statements from `from` on, in a list that ends where the body does, of the header at `start`: "each check for the
 -- whole header before the next".
-unfoldable pub shapeChecked : List ℕ → ℕ → ℕ → Outcome (Unit {0})
-shapeChecked s from start = do
-  ts ← present (statementsFrom s from) 6 start
-  require (every (isShort s) ts) 7 start
-
--- And then error 8.
 unfoldable pub statementsChecked : List ℕ → ℕ → ℕ → Outcome (Unit {0})
 statementsChecked s from start = do
   ts ← present (statementsFrom s from) 6 start
-  require (every (isShort s) ts) 7 start
-  require (areDistinct (map (key s) ts)) 8 start
+  rulesChecked (every (isShort s) ts) (areDistinct (map (key s) ts)) start

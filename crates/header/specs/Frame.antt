@@ -1,5 +1,5 @@
 -- The header at an offset, as a function, with errors 3, 4 and 5.
-use mathlib.Core.Bool.{Bool, cond, _||_}
+use mathlib.Core.Bool.{Bool, cond, not, _||_}
 use mathlib.Core.List.{List}
 use Prim.Native.Nat.{ℕ, suc, _+_, _-_}
 use lib.Dec.{eqb, ltb}
@@ -29,6 +29,10 @@ closingAt s right =
 -- "byte 0, above 127, `{` or `}`": what can't stand in a body.
 unfoldable pub endsBody : ℕ → Bool
 endsBody b = eqb b 0 || (ltb 127 b || (eqb b 123 || eqb b 125))
+
+-- And what can.
+abbrev pub staysInBody : ℕ → Bool
+staysInBody b = not (endsBody b)
 
 -- 3: "no start pattern here". 4: the first byte after the opening that can't stand in a body "is not `}`"; its position is
 -- that byte. 5: "there is none, or it does not complete an end pattern".

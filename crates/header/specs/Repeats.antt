@@ -1,6 +1,6 @@
 -- What the functions that look for a repeated key say to each other.
 use mathlib.Core.Path.{_≡_}
-use mathlib.Core.Bool.{Bool, false}
+use mathlib.Core.Bool.{Bool, true, false, not}
 use mathlib.Core.List.{List, [], _∷_, _++_, map}
 use mathlib.Core.Option.{Option, none, some}
 use Prim.Native.Nat.{ℕ}
@@ -27,3 +27,8 @@ pub record KeyInserted (s : List ℕ) (from to slots : ℕ) (k l l′ : List ℕ
   pub repeated : (ts : List Statement) → StatementsTo s from ts to → ContainsKeys slots l (map (key s) ts)
       → r ≡ among k (map (key s) ts)
   pub contained : (ks : List (List ℕ)) → ContainsKeys slots l ks → ContainsKeys slots l′ (ks ++ (k ∷ []))
+
+-- The same for the statement t, as long as the keys before are distinct; r says whether they still are.
+pub record StillDistinct (s : List ℕ) (from slots : ℕ) (t : Statement) (distinct : Bool) (l l′ : List ℕ) (r : Bool) : Type 0 where
+  pub skipped : distinct ≡ false → r ≡ false
+  pub inserted : distinct ≡ true → KeyInserted s from (t .first) slots (key s t) l l′ (not r)

@@ -9,7 +9,8 @@ ghost use lib.ListN.{length};
 ghost use Rattle.scan.specs.Outcome.{failed, errorAt};
 ghost use Rattle.scan.specs.Search.{firstFrom};
 ghost use Rattle.header.specs.Answers.{framedOutcome};
-ghost use Rattle.header.specs.Frame.{openingAt, closingAt, endsBody, frameAt, headerAt};
+ghost use Rattle.text.specs.Text.{every};
+ghost use Rattle.header.specs.Frame.{openingAt, closingAt, endsBody, staysInBody, frameAt, headerAt};
 
 // Where the `{` of a start pattern at `start` is.
 fn opening_at(s: &[u8], start: usize) -> Found
@@ -58,21 +59,28 @@ fn closing_at(s: &[u8], right: usize) -> Found
     Found::Nothing
 }
 
-// Whether a byte can't stand in a body. Most bytes are below the braces, so these are settled first.
+// Whether a byte can't stand in a body. There is no branch, so that the compiler tests many bytes at once.
 fn ends_body(b: u8) -> bool
     ensures { λ r. ⌜ r ≡ endsBody b ⌝ }
 {
-    if b < b'{' {
-        return b == 0;
-    }
-    if 127 < b {
-        return true;
-    }
-    b == b'{' || b == b'}'
+    (b == 0) | ((127 < b) | ((b == b'{') | (b == b'}')))
 }
 
-// The first offset from `from` on whose byte can't stand in a body.
-fn find_body_end(s: &[u8], from: usize) -> Found
+// Whether each byte may stand in a body. All are looked at, whatever the first are.
+fn is_body(l: &[u8]) -> bool
+    ensures { λ r. ⌜ r ≡ every staysInBody (now (l .entry)) ⌝ }
+{
+    let mut r = true;
+    let mut i = 0;
+    while i < l.len() {
+        r = r & !ends_body(l[i]);
+        i += 1;
+    }
+    r
+}
+
+// The first offset from `from` on whose byte can't stand in a body, byte by byte.
+fn find_bytewise(s: &[u8], from: usize) -> Found
     ensures { λ r. ⌜ r ≡ firstFrom endsBody (now (s .entry)) from ⌝ }
 {
     let mut i = from;
@@ -81,6 +89,24 @@ fn find_body_end(s: &[u8], from: usize) -> Found
             return Found::At(i);
         }
         i += 1;
+    }
+    Found::Nothing
+}
+
+// The same, 64 bytes at a time as long as all of them may stand in a body.
+fn find_body_end(s: &[u8], from: usize) -> Found
+    ensures { λ r. ⌜ r ≡ firstFrom endsBody (now (s .entry)) from ⌝ }
+{
+    let mut i = from;
+    while i < s.len() {
+        if s.len() - i < 64 {
+            return find_bytewise(s, i);
+        }
+        let e = i + 64;
+        if !is_body(&s[i..e]) {
+            return find_bytewise(s, i);
+        }
+        i = e;
     }
     Found::Nothing
 }

@@ -1,19 +1,14 @@
-// Whether a key stands twice in a header: by a hash table, with an exact comparison where the hash is in it already.
-use super::Next;
+// Whether the key of a statement is that of one before: by a hash table, with an exact comparison where the hash is in it already.
 use super::lookup::Sought;
 use super::lookup::find_key;
-use super::statements::statement_at;
 use text::key::fold_byte;
 use text::whitespace::is_whitespace;
 ghost use mathlib.Core.Path.{_≡_};
-ghost use mathlib.Core.Bool.{not};
-ghost use mathlib.Core.List.{map};
 ghost use Rattle.text.specs.Key.{keyOf};
-ghost use Rattle.header.specs.Entry.{key};
 ghost use Rattle.header.specs.Hash.{mixed, mixedKeyByte, hashOf, slotOf, Inserted};
 ghost use Rattle.header.specs.Lookup.{firstStatement};
 ghost use Rattle.header.specs.Repeats.{startsBefore, KeyInserted};
-ghost use Rattle.header.specs.Statements.{leadingStatements, areDistinct};
+ghost use Rattle.header.specs.Statements.{leadingStatements};
 
 fn wide(b: u8) -> u64
     ensures { λ r. ⌜ r ≡ b ⌝ }
@@ -93,7 +88,7 @@ fn is_earlier(s: &[u8], from: usize, to: usize, k: &[u8]) -> bool
 }
 
 // Whether `k` is a key of the statements from `from` up to `to`, whose hashes the table contains. Now it contains that of `k`.
-fn insert_key(s: &[u8], from: usize, to: usize, k: &[u8], table: &mut [u64], slots: u32) -> bool
+pub fn insert_key(s: &[u8], from: usize, to: usize, k: &[u8], table: &mut [u64], slots: u32) -> bool
     ensures { λ r. ⌜ KeyInserted (now (s .entry)) from to slots (keyOf (now (k .entry))) (now (table .entry)) (now (table .exit)) r ⌝ }
 {
     let h = hash_key(k);
@@ -101,59 +96,4 @@ fn insert_key(s: &[u8], from: usize, to: usize, k: &[u8], table: &mut [u64], slo
         return is_earlier(s, from, to, k);
     }
     false
-}
-
-// With a table that is lent.
-fn has_repeated_key_in(s: &[u8], from: usize, table: &mut [u64], slots: u32) -> bool
-    ensures { λ r. ⌜ r ≡ not (areDistinct (map (key (now (s .entry))) (leadingStatements (now (s .entry)) from))) ⌝ }
-{
-    let mut i = from;
-    loop {
-        match statement_at(s, i) {
-            Next::End => {
-                return false;
-            }
-            Next::Malformed => {
-                return false;
-            }
-            Next::One(t) => {
-                let a = t.first;
-                let e = t.equals;
-                if insert_key(s, from, i, &s[a..e], table, slots) {
-                    return true;
-                }
-                i = t.end + 1;
-            }
-        }
-    }
-}
-
-// The last 64 slots are for probes that start near the end, which do not wrap around.
-fn by_small_table(s: &[u8], from: usize) -> bool
-    ensures { λ r. ⌜ r ≡ not (areDistinct (map (key (now (s .entry))) (leadingStatements (now (s .entry)) from))) ⌝ }
-{
-    let mut table = [0u64; 2112];
-    has_repeated_key_in(s, from, &mut table, 2048)
-}
-
-// Here the last 512.
-fn by_large_table(s: &[u8], from: usize) -> bool
-    ensures { λ r. ⌜ r ≡ not (areDistinct (map (key (now (s .entry))) (leadingStatements (now (s .entry)) from))) ⌝ }
-{
-    let mut table = [0u64; 29184];
-    has_repeated_key_in(s, from, &mut table, 28672)
-}
-
-// Whether a key stands twice among the statements from `from` on. `s` ends where the body ends. A small header does not pay
-// for clearing a large table.
-pub fn has_repeated_key(s: &[u8], from: usize) -> bool
-    ensures { λ r. ⌜ r ≡ not (areDistinct (map (key (now (s .entry))) (leadingStatements (now (s .entry)) from))) ⌝ }
-{
-    let n = s.len();
-    if from < n {
-        if 4096 < n - from {
-            return by_large_table(s, from);
-        }
-    }
-    by_small_table(s, from)
 }

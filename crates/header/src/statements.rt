@@ -1,18 +1,11 @@
 // Statements of a header's body. The slice is the file up to the header's `}`, so that offsets are the file's.
-use super::Checked;
 use super::Next;
 use super::Statement;
-use scan::Error;
 use scan::Found;
 ghost use mathlib.Core.Path.{_≡_};
-ghost use mathlib.Core.Bool.{_&&_};
-ghost use Prim.Native.Nat.{_≤_, _<_};
-ghost use lib.ListN.{length};
-ghost use Rattle.scan.specs.Outcome.{failed, errorAt};
 ghost use Rattle.scan.specs.Search.{firstFrom};
-ghost use Rattle.header.specs.Answers.{checkedOutcome};
-ghost use Rattle.header.specs.Checks.{separator, shapeChecked};
-ghost use Rattle.header.specs.Statements.{statementAt, isShort};
+ghost use Rattle.header.specs.Checks.{separator};
+ghost use Rattle.header.specs.Statements.{statementAt};
 
 // Whether a byte is `=` or `;`.
 fn is_separator(b: u8) -> bool
@@ -60,58 +53,4 @@ pub fn statement_at(s: &[u8], at: usize) -> Next
         equals: equals,
         end: end,
     })
-}
-
-// Whether `short` holds and the key and the value of a statement are not too long.
-fn still_short(s: &[u8], t: Statement, short: bool) -> bool
-    requires { ⌜ (t .first ≤ t .equals) × (t .equals < t .end) × (t .end < length (now s)) ⌝ }
-    ensures { λ r. ⌜ r ≡ (short && isShort (now (s .entry)) t) ⌝ }
-{
-    if !short {
-        return false;
-    }
-    let first = t.first;
-    let equals = t.equals;
-    if 64 < text::key::key_length(&s[first..equals]) {
-        return false;
-    }
-    let value = equals + 1;
-    let end = t.end;
-    let trimmed = text::value::trimmed_span(&s[value..end]);
-    trimmed.length <= 2048
-}
-
-// An answer that a check fails.
-fn refused(code: u8, position: usize) -> Checked
-    ensures { λ r. ⌜ checkedOutcome r ≡ failed (errorAt code position) ⌝ }
-{
-    Checked::Failed(Error {
-        code: code,
-        position: position,
-    })
-}
-
-// The statements from `from` on, of the header at `start`: error 6 of any of them, then error 7.
-pub fn check_shape(s: &[u8], from: usize, start: usize) -> Checked
-    ensures { λ r. ⌜ checkedOutcome r ≡ shapeChecked (now (s .entry)) from start ⌝ }
-{
-    let mut at = from;
-    let mut short = true;
-    loop {
-        match statement_at(s, at) {
-            Next::Malformed => {
-                return refused(6, start);
-            }
-            Next::End => {
-                if short {
-                    return Checked::Good;
-                }
-                return refused(7, start);
-            }
-            Next::One(t) => {
-                short = still_short(s, t, short);
-                at = t.end + 1;
-            }
-        }
-    }
 }

@@ -1,7 +1,6 @@
 // All checks of a header's statements.
 use crate::lists::BODY;
 use crate::lists::show_each;
-use crate::values::yes_or_no;
 use examples::bracketed;
 use examples::count;
 use examples::end_line;
@@ -137,11 +136,9 @@ fn wide_body() {
     s[4990] = b'b';
     s[4991] = b'=';
     s[4995] = b';';
-    show(b"repeated in 5000 bytes, a and b");
-    yes_or_no(header::repeat::has_repeated_key(&s, 0));
+    long_body(b"5000 bytes, a and b", b"", &s);
     s[4990] = b'A';
-    show(b"repeated in 5000 bytes, a and A");
-    yes_or_no(header::repeat::has_repeated_key(&s, 0));
+    long_body(b"5000 bytes, a and A", b"", &s);
 }
 
 pub fn limit_examples() {

@@ -7,7 +7,7 @@ use examples::end_line;
 use examples::show;
 use examples::word;
 
-pub fn yes_or_no(b: bool) {
+fn yes_or_no(b: bool) {
     if b {
         word(b"yes");
     } else {
