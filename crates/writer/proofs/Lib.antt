@@ -8,7 +8,7 @@ pub mod HeaderLaws
 pub mod Keywords
 pub mod LineLaws
 pub mod Main
-pub mod OrderTable
+pub mod Orders
 pub mod Pixels
 pub mod Rendered
 pub mod Sizes

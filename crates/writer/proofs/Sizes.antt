@@ -1,22 +1,22 @@
 -- Sizes of arrays that fit, and the axes that the code walks along.
 use mathlib.Core.Path.{_≡_, refl, sym, ap, subst}
-use mathlib.Core.Bool.{true}
+use mathlib.Core.Bool.{Bool, true, false}
 use mathlib.Core.List.{List, [], _∷_}
 use Prim.Native.Nat.{ℕ, zero, suc, _+_, _-_, _*_, _≤_, _<_}
 use native.Mathlib.Nat.{zero-mul, mul-one, mul-comm, mul-le-mul-left, mul-le-mul-right}
 use native.Mathlib.Omega.{arith}
-use borrow.Author.Tests.{le-leb, lt-leb}
 use Rattle.scan.proofs.Decides.{decided}
 use Rattle.text.proofs.Everys.{Each}
 use Rattle.text.proofs.Parts.{each-head, each-tail}
 use Rattle.raster.specs.Axis.{Axis, forward}
 use Rattle.raster.specs.Position.{product, dimOf}
+use Rattle.raster.specs.Strides.{axisOf}
 use Rattle.writer.specs.File.{frameAllowed}
-use Rattle.writer.specs.Stored.{shapeDims, Small, IsShape, axisOf, axisAt, strideOf, upOf, downOf, backOf, stepsAlong, storedSteps}
+use Rattle.writer.specs.Stored.{shapeDims, Small, IsShape, axisAt, strideOf, upOf, downOf, backOf, Ran, stepsAlong, storedSteps}
 use Rattle.writer.specs.declared.Frame.{Frame}
 use Rattle.writer.specs.declared.dims.Shape.{Shape}
 use Rattle.writer.proofs.Allowed.{Within, Allowed, allowed-decides}
-use Rattle.writer.proofs.OrderTable.{order-permutes}
+use Rattle.writer.proofs.Orders.{order-permutes}
 use Rattle.writer.proofs.Walks.{runs, ends-inside, some-dims}
 
 mul-most : (a b x y : ℕ) → a ≤ x → b ≤ y → a * b ≤ x * y
@@ -86,19 +86,14 @@ module _ (s : Shape) (small : Small s) where
 
 -- ---- One axis
 
--- What is known of it.
-abbrev pub Ran : List ℕ → ℕ → Axis → ℕ → ℕ → ℕ → ℕ → Type 0
-Ran dims w a dim up down back =
-    ((dim ≡ dimOf dims a) × (up ≡ upOf dims w a)) × ((down ≡ downOf dims w a) × (back ≡ backOf dims w a))
-
-module _ (dims : List ℕ) (w k : ℕ) {d t : ℕ} where
-  pub forward-run : k ≤ 3 → d ≡ dimOf dims (forward k) → t ≡ strideOf dims w (forward k) → Ran dims w (axisOf k) d t 0 0
+module _ (dims : List ℕ) (w k : ℕ) {b : Bool} {d t : ℕ} (e : d ≡ dimOf dims (forward k)) (q : t ≡ strideOf dims w (forward k)) where
+  pub forward-run : b ≡ false → Ran dims w (axisOf b k) d t 0 0
   unfolding upOf downOf backOf
-  forward-run h e q = rw (le-leb k 3 h) ((e, q), (refl, sym (zero-mul (dimOf dims (forward k) - 1))))
+  forward-run f = rw f ((e, q), (refl, sym (zero-mul (dimOf dims (forward k) - 1))))
 
-  pub backward-run : 3 < k → d ≡ dimOf dims (forward (k - 3)) → t ≡ strideOf dims w (forward (k - 3)) → Ran dims w (axisOf k) d 0 t (t * (d - 1))
+  pub backward-run : b ≡ true → Ran dims w (axisOf b k) d 0 t (t * (d - 1))
   unfolding upOf downOf backOf strideOf
-  backward-run h e q = rw (lt-leb k 3 h) ((e, refl), (q, (λ i. q i * (e i - 1))))
+  backward-run f = rw f ((e, refl), (q, (λ i. q i * (e i - 1))))
 
 -- ---- Three axes
 

@@ -28,7 +28,7 @@ use Rattle.writer.specs.declared.dims.Shape.{Shape}
 use Rattle.writer.proofs.Allowed.{Allowed}
 use Rattle.writer.proofs.Codes.{type-wide}
 use Rattle.writer.proofs.Described.{few-configurations, stored-length}
-use Rattle.writer.proofs.OrderTable.{order-axes, order-permutes}
+use Rattle.writer.proofs.Orders.{order-axes, order-permutes}
 use Rattle.writer.proofs.Walks.{Placed, placed, placed-bytes, walk-inside, some-dims, below}
 
 -- ---- Fewer dimensions than three

@@ -9,7 +9,7 @@ use Rattle.raster.specs.Axis.{Axis, forward, backward}
 use Rattle.raster.specs.Position.{product, indexOf, dimOf, along}
 use Rattle.raster.specs.Strided.{placeOf, Inside3}
 use Rattle.writer.specs.Stored.{strideOf, upOf, downOf, backOf, stepsAlong}
-use Rattle.writer.proofs.OrderTable.{Permutes, p123, p132, p213, p231, p312, p321}
+use Rattle.writer.proofs.Orders.{Permutes, p123, p132, p213, p231, p312, p321}
 
 -- ---- One axis
 

@@ -1,9 +1,7 @@
 -- The pixels read in the order in which they are stored.
 use mathlib.Core.Path.{_≡_}
-use mathlib.Core.Bool.{cond}
 use mathlib.Core.List.{List, [], _∷_}
 use Prim.Native.Nat.{ℕ, _+_, _-_, _*_, _≤_, _<_}
-use lib.Dec.{leb}
 use lib.ListN.{take, getD}
 use Rattle.raster.specs.Axis.{Axis, forward, backward, orderOf}
 use Rattle.raster.specs.Position.{product, indexOf, dimOf}
@@ -35,10 +33,6 @@ pub record IsShape (f : Frame) (s : Shape) : Type 0 where
 
 -- ---- Steps along the order of a configuration
 
--- An axis by its number: n is index n, and n + 3 is index n backward.
-abbrev pub axisOf : ℕ → Axis
-axisOf k = cond (leb k 3) (forward k) (backward (k - 3))
-
 -- Axis k of a configuration for three indices, counted from 0.
 unfoldable pub axisAt : ℕ → ℕ → Axis
 axisAt number k = getD (orderOf 3 number) k (forward 0)
@@ -58,6 +52,11 @@ downOf dims w (backward n) = strideOf dims w (backward n)
 
 unfoldable pub backOf : List ℕ → ℕ → Axis → ℕ
 backOf dims w a = downOf dims w a * (dimOf dims a - 1)
+
+-- An axis of so many elements, with these steps and this start.
+abbrev pub Ran : List ℕ → ℕ → Axis → ℕ → ℕ → ℕ → ℕ → Type 0
+Ran dims w a dim up down back =
+    ((dim ≡ dimOf dims a) × (up ≡ upOf dims w a)) × ((down ≡ downOf dims w a) × (back ≡ backOf dims w a))
 
 -- The steps along three axes.
 unfoldable pub stepsAlong : List ℕ → ℕ → Axis → Axis → Axis → Steps

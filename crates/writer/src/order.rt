@@ -1,167 +1,14 @@
 // The order in which the pixels are stored, as steps through pixels of configuration 1.
 use crate::dims::Shape;
+use raster::configuration::Direction;
+use raster::configuration::order_of;
 use raster::stride::Steps;
 ghost use mathlib.Core.Path.{_≡_};
-ghost use Prim.Native.Nat.{_+_, _*_, _≤_, _<_};
+ghost use Prim.Native.Nat.{_≤_};
 ghost use Rattle.raster.specs.Axis.{forward};
 ghost use Rattle.raster.specs.Position.{dimOf};
-ghost use Rattle.writer.specs.Stored.{shapeDims, Small, axisOf, axisAt, strideOf, upOf, downOf, backOf, storedSteps};
-
-// By the number of a configuration for three indices, less 1: its indices from fast to slow. n + 3 stands for index n backward.
-const ORDERS: [u8; 144] = [
-    1,
-    2,
-    3,
-    4,
-    2,
-    3,
-    1,
-    5,
-    3,
-    4,
-    5,
-    3,
-    2,
-    1,
-    3,
-    2,
-    4,
-    3,
-    5,
-    1,
-    3,
-    5,
-    4,
-    3,
-    1,
-    2,
-    6,
-    4,
-    2,
-    6,
-    1,
-    5,
-    6,
-    4,
-    5,
-    6,
-    2,
-    1,
-    6,
-    2,
-    4,
-    6,
-    5,
-    1,
-    6,
-    5,
-    4,
-    6,
-    1,
-    3,
-    2,
-    4,
-    3,
-    2,
-    1,
-    3,
-    5,
-    4,
-    3,
-    5,
-    2,
-    3,
-    1,
-    2,
-    3,
-    4,
-    5,
-    3,
-    1,
-    5,
-    3,
-    4,
-    1,
-    6,
-    2,
-    4,
-    6,
-    2,
-    1,
-    6,
-    5,
-    4,
-    6,
-    5,
-    2,
-    6,
-    1,
-    2,
-    6,
-    4,
-    5,
-    6,
-    1,
-    5,
-    6,
-    4,
-    3,
-    1,
-    2,
-    3,
-    4,
-    2,
-    3,
-    1,
-    5,
-    3,
-    4,
-    5,
-    3,
-    2,
-    1,
-    3,
-    2,
-    4,
-    3,
-    5,
-    1,
-    3,
-    5,
-    4,
-    6,
-    1,
-    2,
-    6,
-    4,
-    2,
-    6,
-    1,
-    5,
-    6,
-    4,
-    5,
-    6,
-    2,
-    1,
-    6,
-    2,
-    4,
-    6,
-    5,
-    1,
-    6,
-    5,
-    4,
-];
-
-fn axis_at(number: u32, k: usize) -> u8
-    requires { ⌜ (1 ≤ number) × (number ≤ 48) × (k < 3) ⌝ }
-    ensures { λ r. ⌜ (1 ≤ r) × (r ≤ 6) × (axisOf r ≡ axisAt number k) ⌝ }
-{
-    let m = (number as usize - 1) * 3 + k;
-    ORDERS[m]
-}
+ghost use Rattle.raster.specs.Strides.{axisOf};
+ghost use Rattle.writer.specs.Stored.{shapeDims, Small, axisAt, strideOf, Ran, storedSteps};
 
 // One axis: its dimension, how far one more of its index is on or back, and where it starts.
 struct Run {
@@ -198,27 +45,26 @@ fn stride_at(index: u8, s: Shape, w: usize) -> usize
     w * (s.dim1 * s.dim2)
 }
 
-fn run_along(axis: u8, s: Shape, w: usize) -> Run
-    requires { ⌜ (1 ≤ axis) × (axis ≤ 6) ⌝ }
+fn run_along(d: Direction, s: Shape, w: usize) -> Run
+    requires { ⌜ (1 ≤ d .index) × (d .index ≤ 3) ⌝ }
     requires { ⌜ Small s × (w ≤ 8) ⌝ }
-    ensures { λ r. ⌜ (r .dim ≡ dimOf (shapeDims s) (axisOf axis)) × (r .up ≡ upOf (shapeDims s) w (axisOf axis)) ⌝ }
-    ensures { λ r. ⌜ (r .down ≡ downOf (shapeDims s) w (axisOf axis)) × (r .back ≡ backOf (shapeDims s) w (axisOf axis)) ⌝ }
+    ensures { λ r. ⌜ Ran (shapeDims s) w (axisOf (d .backward) (d .index)) (r .dim) (r .up) (r .down) (r .back) ⌝ }
 {
-    if axis <= 3 {
+    let dim = dim_at(d.index, s);
+    let stride = stride_at(d.index, s, w);
+    if d.backward {
         return Run {
-            dim: dim_at(axis, s),
-            up: stride_at(axis, s, w),
-            down: 0,
-            back: 0,
+            dim: dim,
+            up: 0,
+            down: stride,
+            back: stride * (dim - 1),
         };
     }
-    let dim = dim_at(axis - 3, s);
-    let stride = stride_at(axis - 3, s, w);
     Run {
         dim: dim,
-        up: 0,
-        down: stride,
-        back: stride * (dim - 1),
+        up: stride,
+        down: 0,
+        back: 0,
     }
 }
 
@@ -237,9 +83,13 @@ pub fn walk_of(number: u32, s: Shape, w: usize) -> Walk
     ensures { λ r. ⌜ (r .dim1 ≡ dimOf (shapeDims s) (axisAt number 0)) × (r .dim2 ≡ dimOf (shapeDims s) (axisAt number 1)) ⌝ }
     ensures { λ r. ⌜ r .dim3 ≡ dimOf (shapeDims s) (axisAt number 2) ⌝ }
 {
-    let a = run_along(axis_at(number, 0), s, w);
-    let b = run_along(axis_at(number, 1), s, w);
-    let c = run_along(axis_at(number, 2), s, w);
+    let o = order_of(number);
+    let first = o.first;
+    let second = o.second;
+    let third = o.third;
+    let a = run_along(first, s, w);
+    let b = run_along(second, s, w);
+    let c = run_along(third, s, w);
     let steps = Steps {
         at: a.back + b.back + c.back,
         up1: a.up,

@@ -1,64 +1,19 @@
--- The axes of every configuration for three indices: a table of them, and that they are an order of the indices. By one computed
--- test each.
-use mathlib.Core.Path.{_≡_, refl, ap, subst}
+-- The axes of every configuration for three indices are an order of the indices, by one computed test.
+use mathlib.Core.Path.{_≡_, refl, sym, ap, subst, _∙_}
 use mathlib.Core.Bool.{Bool, true, false, _&&_, _||_, false≢true}
 use mathlib.Core.List.{List, [], _∷_}
-use Prim.Native.Nat.{ℕ, suc, _+_, _-_, _*_, _/_, _%_, _≤_, _<_}
+use Prim.Native.Nat.{ℕ, suc, _-_, _≤_, _<_}
 use native.Mathlib.Omega.{arith}
-use borrow.Author.Tests.{eqb-true, leb-true}
-use lib.Dec.{eqb, leb}
+use borrow.Author.Tests.{eqb-true}
+use lib.Dec.{eqb}
 use lib.ListN.{length, getD}
-use Rattle.raster.specs.Axis.{Axis, forward, backward, configurations, insertWithAfter, orderFrom, orderOf}
+use Rattle.raster.specs.Axis.{Axis, forward, configurations, insertWithAfter, orderFrom, orderOf}
 use Rattle.raster.specs.Position.{indexOf}
-use Rattle.writer.specs.Stored.{axisOf, axisAt}
+use Rattle.raster.specs.Strides.{axisOf, axesOf}
+use Rattle.raster.specs.declared.configuration.Direction.{Direction}
+use Rattle.raster.specs.declared.configuration.Order.{Order}
+use Rattle.writer.specs.Stored.{axisAt}
 use Rattle.writer.proofs.Codes.{below, and-both}
-
-abbrev sameAxis : Axis → Axis → Bool
-sameAxis (forward a) (forward b) = eqb a b
-sameAxis (forward a) (backward b) = false
-sameAxis (backward a) (forward b) = false
-sameAxis (backward a) (backward b) = eqb a b
-
-same-axis : (a b : Axis) → sameAxis a b ≡ true → a ≡ b
-same-axis (forward a) (forward b) e = ap forward (eqb-true a b e)
-same-axis (forward a) (backward b) e = absurd (false≢true e)
-same-axis (backward a) (forward b) e = absurd (false≢true e)
-same-axis (backward a) (backward b) e = ap backward (eqb-true a b e)
-
--- ---- The table
-
-abbrev pub orders : List ℕ
-orders =
-    1 ∷ 2 ∷ 3 ∷ 4 ∷ 2 ∷ 3 ∷ 1 ∷ 5 ∷ 3 ∷ 4 ∷ 5 ∷ 3 ∷ 2 ∷ 1 ∷ 3 ∷ 2 ∷ 4 ∷ 3 ∷ 5 ∷ 1 ∷ 3 ∷ 5 ∷ 4 ∷ 3 ∷ 1 ∷ 2 ∷ 6 ∷ 4 ∷ 2 ∷ 6 ∷ 1 ∷ 5 ∷ 6 ∷ 4 ∷ 5 ∷ 6
-    ∷ 2 ∷ 1 ∷ 6 ∷ 2 ∷ 4 ∷ 6 ∷ 5 ∷ 1 ∷ 6 ∷ 5 ∷ 4 ∷ 6 ∷ 1 ∷ 3 ∷ 2 ∷ 4 ∷ 3 ∷ 2 ∷ 1 ∷ 3 ∷ 5 ∷ 4 ∷ 3 ∷ 5 ∷ 2 ∷ 3 ∷ 1 ∷ 2 ∷ 3 ∷ 4 ∷ 5 ∷ 3 ∷ 1 ∷ 5 ∷ 3 ∷ 4
-    ∷ 1 ∷ 6 ∷ 2 ∷ 4 ∷ 6 ∷ 2 ∷ 1 ∷ 6 ∷ 5 ∷ 4 ∷ 6 ∷ 5 ∷ 2 ∷ 6 ∷ 1 ∷ 2 ∷ 6 ∷ 4 ∷ 5 ∷ 6 ∷ 1 ∷ 5 ∷ 6 ∷ 4 ∷ 3 ∷ 1 ∷ 2 ∷ 3 ∷ 4 ∷ 2 ∷ 3 ∷ 1 ∷ 5 ∷ 3 ∷ 4 ∷ 5
-    ∷ 3 ∷ 2 ∷ 1 ∷ 3 ∷ 2 ∷ 4 ∷ 3 ∷ 5 ∷ 1 ∷ 3 ∷ 5 ∷ 4 ∷ 6 ∷ 1 ∷ 2 ∷ 6 ∷ 4 ∷ 2 ∷ 6 ∷ 1 ∷ 5 ∷ 6 ∷ 4 ∷ 5 ∷ 6 ∷ 2 ∷ 1 ∷ 6 ∷ 2 ∷ 4 ∷ 6 ∷ 5 ∷ 1 ∷ 6 ∷ 5 ∷ 4 ∷ []
-
-abbrev entry : ℕ → ℕ
-entry m = getD orders m 0
-
-abbrev Entry : ℕ → ℕ → ℕ → Type 0
-Entry m number k = (1 ≤ entry m) × (entry m ≤ 6) × (axisOf (entry m) ≡ axisAt number k)
-
-entry-test : (m : ℕ) → m < 144 → (leb 1 (entry m) && (leb (entry m) 6 && sameAxis (axisOf (entry m)) (axisAt (suc (m / 3)) (m % 3)))) ≡ true
-unfolding axisAt orderOf orderFrom insertWithAfter configurations
-entry-test m h =
-    below (λ (m : ℕ). leb 1 (entry m) && (leb (entry m) 6 && sameAxis (axisOf (entry m)) (axisAt (suc (m / 3)) (m % 3)))) 144 refl m h
-
-entry-at : (m : ℕ) → m < 144 → Entry m (suc (m / 3)) (m % 3)
-entry-at m h =
-    let a = and-both (leb 1 (entry m)) _ (entry-test m h) in
-    let b = and-both (leb (entry m) 6) _ (a .1) in
-    (leb-true 1 (entry m) (a .0), leb-true (entry m) 6 (b .0), same-axis (axisOf (entry m)) (axisAt (suc (m / 3)) (m % 3)) (b .1))
-
-pub order-entry : (number k : ℕ) → 1 ≤ number → number ≤ 48 → k < 3 → Entry ((number - 1) * 3 + k) number k
-order-entry number k some few h =
-    let m = (number - 1) * 3 + k in
-    let e : suc (m / 3) ≡ number = omega arith in
-    let q : m % 3 ≡ k = omega arith in
-    subst (λ (j : ℕ). Entry m number j) q (subst (λ (n : ℕ). Entry m n (m % 3)) e (entry-at m (omega arith)))
-
--- ---- An order of three indices
 
 pub data Permutes : ℕ → ℕ → ℕ → Type 0 where
   p123 : Permutes 1 2 3
@@ -119,3 +74,44 @@ module _ (number : ℕ) (some : 1 ≤ number) (few : number ≤ 48) where
 
   pub order-permutes : Permutes (axisIndex number 0) (axisIndex number 1) (axisIndex number 2)
   order-permutes = permutes-says _ _ _ (and-both (eqb (length (orderOf 3 number)) 3) _ tested .1)
+
+-- ---- The order of a configuration, in code
+
+index-of : (b : Bool) (k : ℕ) → indexOf (axisOf b k) ≡ k
+index-of true k = refl
+index-of false k = refl
+
+abbrev Index : ℕ → Type 0
+Index k = (1 ≤ k) × (k ≤ 3)
+
+permuted : {x y z : ℕ} → Permutes x y z → Index x × (Index y × Index z)
+permuted p123 = omega arith
+permuted p132 = omega arith
+permuted p213 = omega arith
+permuted p231 = omega arith
+permuted p312 = omega arith
+permuted p321 = omega arith
+
+-- What a direction is of axis k of a configuration.
+pub record IsAxis (number k : ℕ) (d : Direction) : Type 0 where
+  pub axis : axisOf (d .backward) (d .index) ≡ axisAt number k
+  pub index : (1 ≤ d .index) × (d .index ≤ 3)
+
+is-axis : (number k : ℕ) (d : Direction) → axisOf (d .backward) (d .index) ≡ axisAt number k → Index (axisIndex number k) → IsAxis number k d
+is-axis number k d e h =
+    let q : axisIndex number k ≡ d .index = ap indexOf (sym e) ∙ index-of (d .backward) (d .index) in
+    record { axis = e; index = omega (arith, q) }
+
+module _ (number : ℕ) (some : 1 ≤ number) (few : number ≤ 48) (o : Order) (e : axesOf o ≡ orderOf 3 number) where
+  axis-is : (k : ℕ) → getD (axesOf o) k (forward 0) ≡ axisAt number k
+  unfolding axisAt
+  axis-is k = ap (λ (l : List Axis). getD l k (forward 0)) e
+
+  pub order-first : IsAxis number 0 (o .first)
+  order-first = is-axis number 0 (o .first) (axis-is 0) (permuted (order-permutes number some few) .0)
+
+  pub order-second : IsAxis number 1 (o .second)
+  order-second = is-axis number 1 (o .second) (axis-is 1) (permuted (order-permutes number some few) .1 .0)
+
+  pub order-third : IsAxis number 2 (o .third)
+  order-third = is-axis number 2 (o .third) (axis-is 2) (permuted (order-permutes number some few) .1 .1)
