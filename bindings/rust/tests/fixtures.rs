@@ -1,0 +1,117 @@
+//! The wrapper on the fixtures of tests/fixtures, whose listings stand beside them.
+
+use edf::{BlockKind, ByteOrder, Code, File, Identity, Instance, Pixel};
+use std::path::{Path, PathBuf};
+
+fn folder() -> PathBuf {
+    Path::new(env!("CARGO_MANIFEST_DIR")).join("../../tests/fixtures")
+}
+
+fn fixture(name: &str) -> Vec<u8> {
+    std::fs::read(folder().join(name)).expect(name)
+}
+
+fn all_fixtures() -> Vec<(String, Vec<u8>)> {
+    let entries = std::fs::read_dir(folder()).expect("tests/fixtures");
+    let names = entries.map(|entry| entry.unwrap().file_name().into_string().unwrap());
+    let files: Vec<_> = names.filter(|name| name.ends_with(".edf")).map(|name| (name.clone(), fixture(&name))).collect();
+    assert!(files.len() > 30);
+    files
+}
+
+#[test]
+fn listings() {
+    for (name, bytes) in all_fixtures() {
+        let expected = String::from_utf8(fixture(&name.replace(".edf", ".list"))).unwrap();
+        assert_eq!(edf::list(&bytes), expected, "{name}");
+    }
+}
+
+/// What is read in statements here agrees with the library's own lookup: every key is found, with the same text, at a span inside
+/// its statement.
+#[test]
+fn statements_agree_with_lookup() {
+    let mut compared = 0;
+    for (name, bytes) in all_fixtures() {
+        let Ok(file) = File::open(&bytes) else { continue };
+        for block in file.blocks() {
+            for statement in block.statements() {
+                assert_eq!(block.text(statement.key()), statement.text(), "{name} {}", statement.key());
+                let raw = statement.raw().as_ptr() as usize - bytes.as_ptr() as usize;
+                let span = block.find(statement.key()).unwrap();
+                assert!(raw <= span.offset && span.offset + span.length <= raw + statement.raw().len(), "{name}");
+                compared += 1;
+            }
+        }
+    }
+    assert!(compared > 100);
+}
+
+#[test]
+fn pixels_are_the_array() {
+    let mut compared = 0;
+    for (name, bytes) in all_fixtures() {
+        let Ok(file) = File::open(&bytes) else { continue };
+        for array in file.blocks().filter_map(|block| block.array().ok()) {
+            let (dims, width) = (array.description().dims(), array.description().data_type.width());
+            let pixels = array.read(ByteOrder::HighByteFirst).unwrap();
+            let along = |n: usize| *dims.get(n).unwrap_or(&1);
+            for (number, element) in pixels.chunks_exact(width).enumerate().take(1000) {
+                let index = [number % along(0), number / along(0) % along(1), number / along(0) / along(1)];
+                let expected = element.iter().fold(0u64, |sum, &byte| sum << 8 | u64::from(byte));
+                let shift = 64 - 8 * width as u32;
+                match array.pixel(index).unwrap() {
+                    Pixel::Unsigned(value) => assert_eq!(value, expected, "{name} {index:?}"),
+                    Pixel::Signed(value) => assert_eq!(value, (expected << shift) as i64 >> shift, "{name} {index:?}"),
+                    Pixel::Float32(value) => assert_eq!(u64::from(value.to_bits()), expected, "{name} {index:?}"),
+                    Pixel::Float64(value) => assert_eq!(value.to_bits(), expected, "{name} {index:?}"),
+                }
+                compared += 1;
+            }
+        }
+    }
+    assert!(compared > 1000);
+}
+
+#[test]
+fn raster_7_is_undone() {
+    let bytes = fixture("raster_7.edf");
+    let array = File::open(&bytes).unwrap().block(0).unwrap().array().unwrap();
+    assert_eq!(array.description().configuration, 7);
+    assert_eq!(array.read(ByteOrder::HighByteFirst).unwrap(), [0, 1, 0, 2, 0, 3, 0, 4, 0, 5, 0, 6]);
+    let mut out = [9; 14];
+    assert_eq!(array.read_into(ByteOrder::LowByteFirst, &mut out), Ok(12));
+    assert_eq!(out, [1, 0, 2, 0, 3, 0, 4, 0, 5, 0, 6, 0, 9, 9]);
+    assert_eq!(array.read_into(ByteOrder::LowByteFirst, &mut out[..11]).unwrap_err().code(), Code::BufferTooSmall);
+    assert_eq!(array.pixel([3, 0, 0]).unwrap_err().code(), Code::IndexOutside);
+}
+
+#[test]
+fn general_block() {
+    let bytes = fixture("general_defaults.edf");
+    let file = File::open(&bytes).unwrap();
+    let kinds: Vec<_> = file.blocks().map(|block| (block.kind(), block.identity())).collect();
+    let identity = |sequence| Some(Identity { sequence, instance: Instance::Psd, memory: 1 });
+    assert_eq!(kinds, [(BlockKind::General, None), (BlockKind::Data, identity(1)), (BlockKind::Data, identity(2))]);
+    assert_eq!(file.block(0).unwrap().array().unwrap_err().code(), Code::NotFound);
+    assert_eq!(file.block(3).unwrap_err().code(), Code::NotFound);
+    // DataType stands in the general header alone.
+    assert!(file.block(1).unwrap().statements().all(|statement| statement.key() != "DataType"));
+    assert_eq!(file.block(1).unwrap().value("datatype").unwrap(), b"UnsignedShort");
+}
+
+#[test]
+fn errors_have_words() {
+    let bytes = fixture("nul_in_header.edf");
+    let error = File::open(&bytes).unwrap_err();
+    assert_eq!((error.code(), error.position()), (Code::BadHeaderByte, 152));
+    assert_eq!(error.to_string(), "error 4 at 152: a byte that can't stand in a header: 0, above 127, or `{`");
+    let bytes = fixture("order_unknown.edf");
+    let error = File::open(&bytes).unwrap().block(0).unwrap().array().unwrap_err();
+    assert_eq!((error.number(), error.field()), (17, Some("ByteOrder")));
+    assert_eq!(error.to_string(), "error 17 at 2: unknown word in ByteOrder");
+    for (index, code) in Code::ALL.iter().enumerate() {
+        assert_eq!(usize::from(code.number()), index + 1);
+        assert!(code.words().len() > 5);
+    }
+}
