@@ -148,9 +148,17 @@ uint8_t edf_write(int64_t sequence, uint8_t instance, int64_t memory, uint8_t da
                   size_t dim2, size_t dim3, uint32_t configuration, const uint8_t *title, size_t title_length,
                   const uint8_t *pixels, size_t pixels_length, uint8_t *out, size_t out_length, size_t *length, size_t *position);
 
-/* ---- Words for numbers. Tables in C (bindings/c/words.c), in libedf but not in libedf_c. The texts live as long as the program. */
+/* ---- What is not proved: C, in libedf (bindings/c), not in libedf_c */
 
-/* The words for the code of an error; "no error" for 0, "unknown code" above 25. */
+/* The keywords of a header, in its order: `header` and `header_length` are the bytes of a header that edf_open accepted. For each, at
+ * the front of `out`: its key as it is written but without whitespace, byte 0, its value as text, byte 0; for a text over 1,023
+ * characters the byte EDF_NO_TEXT alone. *length is the number of bytes. `header_length` bytes suffice and are asked for.
+ * Errors: 22. */
+enum { EDF_NO_TEXT = 255 };
+uint8_t edf_keywords(const uint8_t *header, size_t header_length, uint8_t *out, size_t out_length, size_t *length, size_t *position);
+
+
+/* The words for the code of an error, which like those below live as long as the program; "no error" for 0, "unknown code" above 25. */
 const char *edf_words(uint8_t code);
 
 /* The field that position 1 to 7 of errors 17 and 18 names: "DataType", "ByteOrder", "Compression", "Dim_1 to Dim_3",

@@ -84,6 +84,21 @@ static void arrays(void) {
     CHECK(edf_read_pixel(file, file_length, 0, 3, 0, 0, &class_, &unsigned_, &signed_, &float32, &float64, &position) == EDF_INDEX_OUTSIDE);
 }
 
+/* Keys without their whitespace, texts, and no text for a value that is too long. */
+static void listing(void) {
+    static uint8_t header[4096];
+    size_t length = 99, position = 99, used = (size_t)sprintf((char *)header, "\r\n{ a b= \"x\\:y\" ;\nC=;long = ");
+    memset(header + used, 'z', 1024);
+    strcpy((char *)header + used + 1024, "; d = = ;  }\n");
+    used = strlen((char *)header);
+    CHECK(edf_keywords(header, used, out, used, &length, &position) == EDF_OK && position == 99);
+    CHECK(length == 21 && memcmp(out, "ab\0x;y\0C\0\0long\0\377\0d\0=\0", 21) == 0);
+    CHECK(edf_keywords(header, used, out, used - 1, &length, &position) == EDF_BUFFER_TOO_SMALL && length == 21 && position == 0);
+    CHECK(edf_keywords((const uint8_t *)"{\n }\n", 6, out, 6, &length, &position) == EDF_OK && length == 0);
+    CHECK(edf_keywords(file, 512, out, 512, &length, &position) == EDF_OK);
+    CHECK(memcmp(out, "EDF_DataBlockID\0001.Image.Psd\0EDF_BinarySize\000512", 46) == 0 && memcmp(out + length - 9, "Title\0x;", 9) == 0);
+}
+
 static void words(void) {
     for (int code = EDF_OK; code <= EDF_TEXT_TOO_LONG; code++)
         for (int other = 0; other < code; other++)
@@ -103,7 +118,7 @@ static void words(void) {
 }
 
 int main(void) {
-    writing(), opening(), keywords(), arrays(), words();
+    writing(), opening(), keywords(), arrays(), listing(), words();
     printf("%d passed, %d failed\n", passed, wrong);
     return wrong != 0;
 }

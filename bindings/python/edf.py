@@ -14,7 +14,7 @@
 Errors of the library are EdfError, with `code`, `position` and `words`; a file that cannot be read is OSError.
 
 The shared object is looked for in the environment variable EDF_LIBRARY, beside this file, in ../../target/lib, and where the system
-looks. What this file reads in headers by itself is only where their statements stand (`header`); everything else the library does.
+looks. Everything that is read in a file the library reads.
 """
 
 import collections.abc
@@ -38,6 +38,16 @@ _HEADER_CAPACITY = 4096  # more than the header and the filling of a written fil
 # ---- The library
 
 
+class _Fields(ctypes.Structure):
+    """What edf_describe sets, in its order."""
+
+    _fields_ = [("datatype", c_uint8), ("byteorder", c_uint8), ("compression", c_uint8), ("n", c_uint8), ("dim1", c_size_t),
+                ("dim2", c_size_t), ("dim3", c_size_t), ("configuration", c_uint32), ("orientation", c_uint32), ("offset", c_int64)]
+
+
+_FIELD_OFFSETS = [getattr(_Fields, name).offset for name, _ in _Fields._fields_]
+
+
 def _load():
     here = os.path.dirname(os.path.abspath(__file__))
     named = os.environ.get("EDF_LIBRARY")
@@ -52,10 +62,10 @@ def _load():
         "edf_find": keyword + [number_out] * 3,
         "edf_text": keyword + buffer_out,
         "edf_whole_number": keyword + [POINTER(c_int64), number_out],
+        "edf_keywords": bytes_in + buffer_out,
         "edf_escape": bytes_in + buffer_out,
         "edf_unescape": bytes_in + buffer_out,
-        "edf_describe": bytes_in + [c_size_t] + [POINTER(c_uint8)] * 4 + [number_out] * 3
-        + [POINTER(c_uint32)] * 2 + [POINTER(c_int64), number_out],
+        "edf_describe": bytes_in + [c_size_t] + [c_void_p] * len(_Fields._fields_) + [number_out],
         "edf_read_array": bytes_in + [c_size_t, c_uint8] + buffer_out,
         "edf_read_pixel": bytes_in + [c_size_t] * 4
         + [POINTER(c_uint8), POINTER(c_uint64), POINTER(c_int64), POINTER(c_float), POINTER(c_double), number_out],
@@ -242,18 +252,18 @@ def unescape(value):
 # ---- Headers
 
 _WHITESPACE = b" \t\n\r\v\f"
+_NO_TEXT = "\xff"  # in place of a text that is too long
 
 
-def _stripped(key):
-    return key.translate(None, _WHITESPACE)
+def _keywords(address, length):
+    """Key and text of each statement of a header that the library accepted."""
+    listed = _into(length, _library.edf_keywords, address, length).decode("latin-1").split("\0")
+    return dict(zip(listed[0:-1:2], listed[1::2]))
 
 
-def _statements(header):
-    """Key and raw value of each statement of a header that the library accepted, by the rule of document 01: the body is between
-    `{` and `}`, a statement ends at `;`, its key at the first `=`."""
-    body = header[header.index(b"{") + 1 : header.rindex(b"}")]
-    parts = (statement.partition(b"=") for statement in body.split(b";"))
-    return [(_stripped(key), value) for key, equals, value in parts if equals]
+def _folded(key):
+    """A sought key as keys are compared."""
+    return _encoded(key).translate(None, _WHITESPACE).lower().decode("utf-8", "replace")
 
 
 class Header(collections.abc.Mapping):
@@ -261,36 +271,58 @@ class Header(collections.abc.Mapping):
     header come first, then those of the general header that hold for the block."""
 
     def __init__(self, own, general):
-        self._values = {}
-        for key, value in own:
-            self._values[key.lower()] = key, value
-        for key, value in general:
-            if not key.lower().startswith(b"edf_"):
-                self._values.setdefault(key.lower(), (key, value))
+        self._texts, self._written = own, None
+        for key, text in general.items():
+            if not key.lower().startswith("edf_") and self._found(key) is None:
+                self._texts[key], self._written = text, None
 
     def _found(self, key):
-        return self._values.get(_stripped(_encoded(key)).lower())
+        """The key as it is written in the header, or None."""
+        if key in self._texts:
+            return key
+        if not isinstance(key, (str, bytes)):
+            return None
+        if self._written is None:
+            self._written = {written.lower(): written for written in self._texts}
+        return self._written.get(_folded(key))
 
     def __getitem__(self, key):
         found = self._found(key)
         if found is None:
             raise KeyError(key)
-        return unescape(found[1])
+        text = self._texts[found]
+        if text == _NO_TEXT:
+            raise EdfError(Code.TEXT_TOO_LONG, 0)
+        return text
 
     def __contains__(self, key):
-        return isinstance(key, (str, bytes)) and self._found(key) is not None
+        return self._found(key) is not None
 
     def __iter__(self):
-        return (key.decode("ascii") for key, _ in self._values.values())
+        return iter(self._texts)
 
     def __len__(self):
-        return len(self._values)
+        return len(self._texts)
 
     def __repr__(self):
-        return "Header(%r)" % dict(self)
+        return "Header(%r)" % self._texts
 
 
 # ---- Files
+
+
+def _opened(address, length):
+    """The rows of the table of a file's blocks."""
+    rows, count, position = (c_uint64 * (7 * MOST_BLOCKS))(), c_size_t(), c_size_t()
+    code = _library.edf_open(address, length, rows, len(rows), byref(count), byref(position))
+    if code:
+        raise EdfError(code, position.value)
+    return list(struct.iter_unpack("=4QqQq", memoryview(rows).cast("B")[: 56 * count.value]))
+
+
+def _block(number, start, header_length, data_length, kind, sequence, instance, memory):
+    identity = Identity(sequence, _INSTANCES[instance], memory) if instance else None
+    return Block(number, start, header_length, data_length, "data" if kind else "general", identity)
 
 
 class File:
@@ -299,15 +331,10 @@ class File:
 
     def __init__(self, data):
         self._bytes = _lent(data)
-        rows, count = (c_uint64 * (7 * MOST_BLOCKS))(), c_size_t()
-        self._call(_library.edf_open, rows, len(rows), byref(count))
-        numbers = struct.iter_unpack("=4QqQq", memoryview(rows).cast("B")[: 56 * count.value])
-        self.blocks = tuple(self._block(number, *row) for number, row in enumerate(numbers))
-
-    @staticmethod
-    def _block(number, start, header_length, data_length, kind, sequence, instance, memory):
-        identity = Identity(sequence, _INSTANCES[instance], memory) if instance else None
-        return Block(number, start, header_length, data_length, "data" if kind else "general", identity)
+        address, length, _owner = self._bytes
+        self._rows = _opened(address, length)
+        self.blocks = tuple(_block(number, *row) for number, row in enumerate(self._rows))
+        self._parts = {}
 
     def close(self):
         """Lets the file's bytes go."""
@@ -322,12 +349,31 @@ class File:
     def __len__(self):
         return len(self.blocks)
 
-    def _call(self, call, *arguments):
-        """A call on the file's bytes, which stay until it ends."""
+    def _call(self, block, call, *arguments):
+        """A call on a block, with as little of the file as answers the same; where that starts."""
+        number = _whole(block, 0, len(self.blocks) - 1, Code.NOT_FOUND)
         (address, length, _owner), position = self._open_bytes(), c_size_t()
-        code = call(address, length, *arguments, byref(position))
+        start, length, number = self._parts.get(number) or self._part(address, length, number)
+        code = call(address + start, length, number, *arguments, byref(position))
         if code:
             raise EdfError(code, position.value)
+        return start
+
+    def _part(self, address, length, number):
+        """Start and length of the part of the file in which calls on a block answer as in the whole file, and the block's number
+        there. A call judges the whole file that it gets, so that with the whole file each would cost the time of all headers.
+        A block of a file without a general block is looked at by itself, if the library opens its bytes alone as one block with
+        the same lengths, kind and identity: its answers then hang on the same header and the same data."""
+        part, row = (0, length, number), self._rows[number]
+        start, size = row[0], row[1] + row[2]
+        if len(self.blocks) > 1 and self.blocks[0].kind == "data":
+            try:
+                if _opened(address + start, size) == [(0,) + row[1:]]:
+                    part = start, size, 0
+            except EdfError:
+                pass
+        self._parts[number] = part
+        return part
 
     def _open_bytes(self):
         if self._bytes is None:
@@ -336,34 +382,31 @@ class File:
 
     def header(self, block):
         """The keywords of a block, a mapping from keys to text."""
-        number = self._number(block)
-        general = self._statements(0) if self.blocks[0].kind == "general" and number != 0 else []
-        return Header(self._statements(number), general)
+        number = _whole(block, 0, len(self.blocks) - 1, Code.NOT_FOUND)
+        general = self._keywords(0) if self.blocks[0].kind == "general" and number != 0 else {}
+        return Header(self._keywords(number), general)
 
-    def _number(self, block):
-        return _whole(block, 0, len(self.blocks) - 1, Code.NOT_FOUND)
-
-    def _statements(self, number):
-        """The statements of a block's own header."""
-        (address, _length, _owner), row = self._open_bytes(), self.blocks[number]
-        return _statements(ctypes.string_at(address + row.start, row.header_length))
+    def _keywords(self, number):
+        """The keywords of a block's own header."""
+        (address, _length, _owner), block = self._open_bytes(), self.blocks[number]
+        return _keywords(address + block.start, block.header_length)
 
     def find(self, block, key):
         """Offset and length of the value of a keyword in the file."""
         key, offset, length = _encoded(key), c_size_t(), c_size_t()
-        self._call(_library.edf_find, self._number(block), key, len(key), byref(offset), byref(length))
-        return offset.value, length.value
+        start = self._call(block, _library.edf_find, key, len(key), byref(offset), byref(length))
+        return start + offset.value, length.value
 
     def text(self, block, key):
         """The value of a keyword as text."""
         key, out, length = _encoded(key), ctypes.create_string_buffer(_TEXT_CAPACITY), c_size_t()
-        self._call(_library.edf_text, self._number(block), key, len(key), out, _TEXT_CAPACITY, byref(length))
+        self._call(block, _library.edf_text, key, len(key), out, _TEXT_CAPACITY, byref(length))
         return ctypes.string_at(out, length.value).decode("ascii")
 
     def whole_number(self, block, key):
         """The value of a keyword as a whole number."""
         key, value = _encoded(key), c_int64()
-        self._call(_library.edf_whole_number, self._number(block), key, len(key), byref(value))
+        self._call(block, _library.edf_whole_number, key, len(key), byref(value))
         return value.value
 
     def describe(self, block):
@@ -372,13 +415,11 @@ class File:
 
     def _described(self, block):
         """The number of the data type, and the description."""
-        datatype, byteorder, compression, n = (c_uint8() for _ in range(4))
-        dims, configuration, orientation, offset = [c_size_t() for _ in range(3)], c_uint32(), c_uint32(), c_int64()
-        fields = [datatype, byteorder, compression, n] + dims + [configuration, orientation, offset]
-        self._call(_library.edf_describe, self._number(block), *map(byref, fields))
-        sizes = tuple(dim.value for dim in dims[: n.value])
-        words = _DATA_TYPES[datatype.value], _BYTE_ORDERS[byteorder.value], "None"
-        return datatype.value, Description(*words, sizes, configuration.value, orientation.value, offset.value)
+        f = _Fields()
+        address = ctypes.addressof(f)
+        self._call(block, _library.edf_describe, *[address + offset for offset in _FIELD_OFFSETS])
+        words = _DATA_TYPES[f.datatype], _BYTE_ORDERS[f.byteorder], "None"
+        return f.datatype, Description(*words, (f.dim1, f.dim2, f.dim3)[: f.n], f.configuration, f.orientation, f.offset)
 
     def array(self, block):
         """The array of a block, in raster configuration 1 and with its value offset added: a numpy array of this machine's byte
@@ -393,7 +434,7 @@ class File:
             self.read_into(block, out)
             return bytes(out[: count * width])
         out = numpy.empty(description.dims[::-1], "=%s%d" % (_KINDS[datatype], width))
-        self._read(block, out.ctypes.data, out.nbytes, _NATIVE)
+        self._read(block, out.__array_interface__["data"][0], out.nbytes, _NATIVE)
         return out
 
     def read_into(self, block, out, byte_order=_NATIVE):
@@ -404,14 +445,14 @@ class File:
 
     def _read(self, block, address, capacity, byte_order):
         order, length = _number_of(_BYTE_ORDERS, byte_order, "byte_order"), c_size_t()
-        self._call(_library.edf_read_array, self._number(block), order, address, capacity, byref(length))
+        self._call(block, _library.edf_read_array, order, address, capacity, byref(length))
         return length.value
 
     def pixel(self, block, i1, i2=0, i3=0):
         """One pixel. Indices count from 0; index 1 runs fastest."""
         index = [_whole(i, 0, MOST_BYTES, Code.INDEX_OUTSIDE) for i in (i1, i2, i3)]
         class_, numbers = c_uint8(), (c_uint64(), c_int64(), c_float(), c_double())
-        self._call(_library.edf_read_pixel, self._number(block), *index, byref(class_), *map(byref, numbers))
+        self._call(block, _library.edf_read_pixel, *index, byref(class_), *map(byref, numbers))
         return numbers[class_.value - 1].value
 
 

@@ -1,5 +1,6 @@
 """Tests of edf.py: python3 -m unittest, in this folder. numpy is not needed; what needs it is skipped where it is not installed."""
 
+import ctypes
 import glob
 import os
 import pickle
@@ -31,6 +32,14 @@ def opened():
             yield os.path.basename(path), edf.open(path)
         except edf.EdfError:
             pass
+
+
+def answer(call, file):
+    """What a call answers, or its error."""
+    try:
+        return call(file)
+    except edf.EdfError as error:
+        return error.code, error.position
 
 
 class without_numpy:
@@ -118,6 +127,16 @@ class Blocks(unittest.TestCase):
             with self.assertRaises(KeyError):
                 header["no such key"]
 
+    def test_text_too_long(self):
+        file = edf.File(("{ Long = %s ; Short = y ; " % ("x" * 1024)).ljust(1534).encode("ascii") + b"}\n")
+        header = file.header(0)
+        self.assertEqual((list(header), header["short"]), (["Long", "Short"], "y"))
+        self.assertIn("Long", header)
+        for call in (lambda: header["Long"], lambda: file.text(0, "Long")):
+            with self.assertRaises(edf.EdfError) as caught:
+                call()
+            self.assertEqual((caught.exception.code, caught.exception.position), (edf.Code.TEXT_TOO_LONG, 0))
+
     def test_keywords(self):
         with edf.open(fixture("title_escapes.edf")) as file:
             offset, length = file.find(0, "Title")
@@ -154,6 +173,31 @@ class Blocks(unittest.TestCase):
             self.assertEqual(caught.exception.code, edf.Code.INDEX_OUTSIDE)
         with self.assertRaises(TypeError):
             file.pixel(0, 0.5)
+
+    def test_a_block_alone_answers_as_in_the_file(self):
+        compared = 0
+        for name, file in opened():
+            whole = edf.File(bytes(ctypes.string_at(*file._bytes[:2])))
+            for block in range(len(file)):
+                whole._parts[block] = 0, file._bytes[1], block
+                for call in (lambda f: f.describe(block), lambda f: f.find(block, "Dim_1"), lambda f: f.text(block, "datatype"),
+                             lambda f: f.pixel(block, 1), lambda f: bytes(f.array(block)), lambda f: f.whole_number(block, "SIZE")):
+                    self.assertEqual(answer(call, file), answer(call, whole), (name, block))
+                    compared += 1
+        self.assertGreater(compared, 100)
+
+    def test_a_block_that_alone_is_another(self):
+        def block(*statements):
+            body = "{\n" + "".join("%s ;\n" % statement for statement in statements)
+            return body.ljust(510).encode("ascii") + b"}\n1234"
+
+        first = block("Size = 4", "DataType = UnsignedByte", "Dim_1 = 4")
+        for keys in (["EDF_BinarySize = 4"], ["EDF_DataBlockID = 1.Image.Psd", "EDF_BinarySize = 4"], ["EDF_DataBlockID = 1.Image.Psd"]):
+            file = edf.File(first + block(*keys + ["Size = 4", "DataType = UnsignedShort", "Dim_1 = 2"]) + first)
+            self.assertEqual(file.pixel(1, 1), 0x3334)
+            self.assertEqual(file.find(1, "size")[0], 516 + len("{\n" + "".join(key + " ;\n" for key in keys) + "Size = "))
+            self.assertEqual(file.pixel(2, 1), 0x32)
+            self.assertEqual((file._parts[1], file._parts[2]), ((0, 3 * 516, 1), (2 * 516, 516, 0)))
 
     def test_missing_and_closed(self):
         with self.assertRaises(FileNotFoundError):

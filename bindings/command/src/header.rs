@@ -4,6 +4,7 @@ use crate::failure::{Failure, Status};
 use crate::input;
 use crate::output::{visible, Output};
 use edf::{Block, BlockKind, File};
+use std::borrow::Cow;
 use std::ffi::OsStr;
 use std::os::unix::ffi::OsStrExt;
 
@@ -32,11 +33,12 @@ fn name(block: &Block) -> String {
     }
 }
 
-/// A line for each statement: its key and its text. A value whose text is too long is shown as it stands.
+/// A line for each keyword: its key and its text. A value whose text is too long is shown as it stands.
 fn keywords(block: &Block, output: &mut Output) -> Result<(), Failure> {
-    for statement in block.statements() {
-        let text = statement.text().unwrap_or_else(|_| String::from_utf8_lossy(statement.raw()).trim().to_string());
-        output.line(&format!("{} = {}", statement.key(), visible(&text)))?;
+    for keyword in block.keywords() {
+        let stored = || String::from_utf8_lossy(block.value(keyword.key()).unwrap_or_default());
+        let text = keyword.text().map_or_else(|_| stored(), Cow::from);
+        output.line(&format!("{} = {}", keyword.key(), visible(&text)))?;
     }
     Ok(())
 }

@@ -48,6 +48,9 @@ extern "C" {
         dim3: usize, configuration: u32, title: *const u8, title_length: usize, pixels: *const u8, pixels_length: usize,
         out: *mut u8, out_length: usize, length: *mut usize, position: *mut usize,
     ) -> u8;
+    fn edf_keywords(
+        header: *const u8, header_length: usize, out: *mut u8, out_length: usize, length: *mut usize, position: *mut usize,
+    ) -> u8;
     fn edf_words(code: u8) -> *const c_char;
     fn edf_field_name(field: usize) -> *const c_char;
     fn edf_datatype_name(datatype: u8) -> *const c_char;
@@ -197,9 +200,17 @@ pub fn write(f: &Numbers, title: &[u8], pixels: &[u8], out: &mut [u8]) -> Result
     answer(code, position, length)
 }
 
+pub fn keywords(header: &[u8], out: &mut [u8]) -> Result<usize, Error> {
+    let (mut length, mut position) = (0, 0);
+    // SAFETY: `header` and `out` are slices with their own lengths, the rest local numbers (see the top of this file).
+    let code =
+        unsafe { edf_keywords(header.as_ptr(), header.len(), out.as_mut_ptr(), out.len(), &mut length, &mut position) };
+    answer(code, position, length)
+}
+
 fn name(text: *const c_char) -> &'static str {
-    // SAFETY: bindings/c/words.c answers string literals: they end with a zero byte, live as long as the program and are never
-    // written.
+    // SAFETY: `text` is an answer of bindings/c/words.c, which has string literals only: they end with a zero byte, live as long as
+    // the program and are never written.
     let text = unsafe { CStr::from_ptr(text) };
     text.to_str().expect("words.c holds ASCII")
 }

@@ -3,7 +3,7 @@
 use crate::array::Array;
 use crate::codes::Instance;
 use crate::error::{Code, Error};
-use crate::statements::{statements, Statement};
+use crate::keywords::{keywords, Keyword};
 use crate::{ffi, text, MOST_BLOCKS};
 use std::fmt;
 
@@ -82,14 +82,24 @@ impl Row {
             identity,
         }
     }
+
+    /// The bytes of the block.
+    fn bytes<'a>(&self, file: &'a [u8]) -> &'a [u8] {
+        &file[self.start..][..self.header_length + self.data_length]
+    }
+}
+
+/// The table of a file's blocks.
+fn rows(bytes: &[u8]) -> Result<Vec<Row>, Error> {
+    let mut numbers = [0; 7 * MOST_BLOCKS];
+    let count = ffi::open(bytes, &mut numbers)?;
+    Ok(numbers[..7 * count].chunks_exact(7).map(Row::of).collect())
 }
 
 impl<'a> File<'a> {
     /// Opens a file: judges every header of it and finds its blocks. Codes 1 and 3 to 15.
     pub fn open(bytes: &'a [u8]) -> Result<File<'a>, Error> {
-        let mut numbers = [0; 7 * MOST_BLOCKS];
-        let count = ffi::open(bytes, &mut numbers)?;
-        Ok(File { bytes, rows: numbers[..7 * count].chunks_exact(7).map(Row::of).collect() })
+        Ok(File { bytes, rows: rows(bytes)? })
     }
 
     /// The bytes of the file.
@@ -99,25 +109,49 @@ impl<'a> File<'a> {
 
     /// The blocks, in the file's order.
     pub fn blocks(&self) -> impl ExactSizeIterator<Item = Block<'a>> + '_ {
-        let bytes = self.bytes;
-        self.rows.iter().enumerate().map(move |(number, &row)| Block { file: bytes, number, row })
+        self.rows.iter().enumerate().map(|(number, row)| self.block_of(number, row))
     }
 
     /// The block with this number, from 0. Code 16.
     pub fn block(&self, number: usize) -> Result<Block<'a>, Error> {
-        match self.rows.get(number) {
-            Some(&row) => Ok(Block { file: self.bytes, number, row }),
-            None => Err(Error::new(Code::NotFound.number(), 0)),
+        let row = self.rows.get(number).ok_or_else(|| Error::new(Code::NotFound.number(), 0))?;
+        Ok(self.block_of(number, row))
+    }
+
+    fn block_of(&self, number: usize, row: &Row) -> Block<'a> {
+        Block { file: self.bytes, number, row: *row, part: self.part(number, row) }
+    }
+
+    /// The part of the file in which calls on a block answer as in the whole file. A call judges the whole file that it gets, so
+    /// that with the whole file each would cost the time of all headers. A block of a file without a general block is looked at by
+    /// itself, if the library opens its bytes alone as one block with the same lengths, kind and identity: its answers then hang
+    /// on the same header and the same data.
+    fn part(&self, number: usize, row: &Row) -> Part<'a> {
+        let alone = Part { bytes: row.bytes(self.bytes), start: row.start, number: 0 };
+        let is_first = Row { start: 0, ..*row };
+        if self.rows.len() > 1 && self.rows[0].kind == BlockKind::Data && rows(alone.bytes) == Ok(vec![is_first]) {
+            alone
+        } else {
+            Part { bytes: self.bytes, start: 0, number }
         }
     }
 }
 
-/// A block of a file. Each call judges the whole file anew, as the library does; a file that was opened passes.
+/// A part of a file, where it starts, and the number that a block has in it.
+#[derive(Clone, Copy, Debug)]
+struct Part<'a> {
+    bytes: &'a [u8],
+    start: usize,
+    number: usize,
+}
+
+/// A block of a file.
 #[derive(Clone, Copy, Debug)]
 pub struct Block<'a> {
     file: &'a [u8],
     number: usize,
     row: Row,
+    part: Part<'a>,
 }
 
 impl<'a> Block<'a> {
@@ -153,32 +187,32 @@ impl<'a> Block<'a> {
 
     /// The header's bytes.
     pub fn header(&self) -> &'a [u8] {
-        &self.file[self.row.start..][..self.row.header_length]
+        &self.row.bytes(self.file)[..self.row.header_length]
     }
 
     /// The data's bytes, as they are stored.
     pub fn data(&self) -> &'a [u8] {
-        &self.file[self.row.start + self.row.header_length..][..self.row.data_length]
+        &self.row.bytes(self.file)[self.row.header_length..]
     }
 
-    /// The statements of its own header, in order.
+    /// The keywords of its own header, in order.
     ///
     /// ```
     /// # let bytes = edf::write(&edf::Frame::image(edf::DataType::UnsignedByte, &[2]), "x;", &[7, 8])?;
     /// let file = edf::File::open(&bytes)?;
-    /// let last = file.block(0)?.statements().last().unwrap();
-    /// assert_eq!((last.key(), last.text()?.as_str()), ("Title", "x;"));
+    /// let keywords = file.block(0)?.keywords();
+    /// assert_eq!((keywords[0].key(), keywords[0].text()?), ("EDF_DataBlockID", "1.Image.Psd"));
     /// # Ok::<(), edf::Error>(())
     /// ```
-    pub fn statements(&self) -> impl Iterator<Item = Statement<'a>> {
-        statements(self.header())
+    pub fn keywords(&self) -> Vec<Keyword> {
+        keywords(self.header())
     }
 
     /// Where the value of a keyword stands in the file. A key is looked up without its whitespace and without regard to case: in
     /// the block's own header, then, unless it starts with EDF_, in the general header. Code 16.
     pub fn find(&self, key: impl AsRef<[u8]>) -> Result<Span, Error> {
-        let (offset, length) = ffi::find(self.file, self.number, key.as_ref())?;
-        Ok(Span { offset, length })
+        let (offset, length) = ffi::find(self.part.bytes, self.part.number, key.as_ref())?;
+        Ok(Span { offset: self.part.start + offset, length })
     }
 
     /// The bytes of the value of a keyword, without outer whitespace and quotes. Code 16.
@@ -189,16 +223,16 @@ impl<'a> Block<'a> {
 
     /// The value of a keyword as text. Codes 16, 25.
     pub fn text(&self, key: impl AsRef<[u8]>) -> Result<String, Error> {
-        text::read(text::TEXT_CAPACITY, |out| ffi::text(self.file, self.number, key.as_ref(), out)).map(text::string)
+        text::read(text::TEXT_CAPACITY, |out| ffi::text(self.part.bytes, self.part.number, key.as_ref(), out)).map(text::string)
     }
 
     /// The value of a keyword as a whole number. Codes 16, 18.
     pub fn whole_number(&self, key: impl AsRef<[u8]>) -> Result<i64, Error> {
-        ffi::whole_number(self.file, self.number, key.as_ref())
+        ffi::whole_number(self.part.bytes, self.part.number, key.as_ref())
     }
 
     /// The array of the block, described. Codes 16 to 21.
     pub fn array(&self) -> Result<Array<'a>, Error> {
-        Array::describe(self.file, self.number)
+        Array::describe(self.part.bytes, self.part.number)
     }
 }

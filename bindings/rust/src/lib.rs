@@ -32,9 +32,8 @@
 //! assert_eq!(error.to_string(), "error 3 at 0: no start of a header here");
 //! ```
 //!
-//! What is proved, and of which definitions, is said in docs/THEOREMS.md of the repository. This crate adds types and the memory
-//! that calls write to; the one thing that it reads in a file by itself is where the statements of a header stand
-//! ([`Block::statements`]).
+//! What is proved, and of which definitions, is said in docs/THEOREMS.md of the repository, and what is not in docs/BINDINGS.md. This
+//! crate adds types and the memory that calls write to.
 #![deny(unsafe_code)]
 #![warn(missing_docs)]
 
@@ -44,8 +43,8 @@ mod error;
 mod ffi;
 mod file;
 mod frame;
+mod keywords;
 mod list;
-mod statements;
 mod text;
 
 pub use array::{Array, Description, Pixel};
@@ -53,8 +52,8 @@ pub use codes::{ByteOrder, Compression, DataType, Instance};
 pub use error::{Code, Error};
 pub use file::{Block, BlockKind, File, Identity, Span};
 pub use frame::{write, Frame};
+pub use keywords::Keyword;
 pub use list::list;
-pub use statements::Statement;
 pub use text::{escape, unescape};
 
 /// The most blocks of a file.

@@ -27,24 +27,38 @@ fn listings() {
     }
 }
 
-/// What is read in statements here agrees with the library's own lookup: every key is found, with the same text, at a span inside
-/// its statement.
+/// The list of keywords agrees with the library's own lookup: every key is found, with the same text.
 #[test]
-fn statements_agree_with_lookup() {
+fn keywords_agree_with_lookup() {
     let mut compared = 0;
     for (name, bytes) in all_fixtures() {
         let Ok(file) = File::open(&bytes) else { continue };
         for block in file.blocks() {
-            for statement in block.statements() {
-                assert_eq!(block.text(statement.key()), statement.text(), "{name} {}", statement.key());
-                let raw = statement.raw().as_ptr() as usize - bytes.as_ptr() as usize;
-                let span = block.find(statement.key()).unwrap();
-                assert!(raw <= span.offset && span.offset + span.length <= raw + statement.raw().len(), "{name}");
+            for keyword in block.keywords() {
+                assert_eq!(block.text(keyword.key()).as_deref(), keyword.text().as_ref().map(|text| *text), "{name} {}", keyword.key());
                 compared += 1;
             }
         }
     }
     assert!(compared > 100);
+}
+
+/// A block of a file without a general block answers as a file of its own, so that its calls need not judge the others.
+#[test]
+fn a_block_that_alone_is_another() {
+    let block = |statements: &str| format!("{{ {statements:<507} }}\n1234").into_bytes();
+    let first = block("Size = 4 ; DataType = UnsignedByte ; Dim_1 = 4 ;");
+    for keys in ["EDF_BinarySize = 4 ;", "EDF_DataBlockID = 1.Image.Psd ; EDF_BinarySize = 4 ;", "EDF_DataBlockID = 1.Image.Psd ;"] {
+        let second = block(&format!("{keys}Size = 4 ; DataType = UnsignedShort ; Dim_1 = 2 ;"));
+        let bytes = [&first[..], &second, &first].concat();
+        let file = File::open(&bytes).unwrap();
+        let pixel = |number: usize| file.block(number).unwrap().array().unwrap().pixel([1, 0, 0]);
+        assert_eq!((pixel(0), pixel(1), pixel(2)), (Ok(Pixel::Unsigned(0x32)), Ok(Pixel::Unsigned(0x3334)), Ok(Pixel::Unsigned(0x32))));
+        let span = file.block(2).unwrap().find("dim_1").unwrap();
+        assert_eq!(&bytes[span.offset..][..span.length], b"4");
+        assert!(span.offset > 2 * 516);
+        assert_eq!(file.block(1).unwrap().value("size").unwrap(), b"4");
+    }
 }
 
 #[test]
@@ -96,7 +110,7 @@ fn general_block() {
     assert_eq!(file.block(0).unwrap().array().unwrap_err().code(), Code::NotFound);
     assert_eq!(file.block(3).unwrap_err().code(), Code::NotFound);
     // DataType stands in the general header alone.
-    assert!(file.block(1).unwrap().statements().all(|statement| statement.key() != "DataType"));
+    assert!(file.block(1).unwrap().keywords().iter().all(|keyword| keyword.key() != "DataType"));
     assert_eq!(file.block(1).unwrap().value("datatype").unwrap(), b"UnsignedShort");
 }
 
