@@ -299,7 +299,7 @@ fn help_and_version() {
 #[test]
 fn a_reader_who_goes() {
     let path = fixture("fabio_multi_10.edf");
-    let files = std::iter::repeat(&path).take(500);
+    let files = std::iter::repeat_n(&path, 500);
     let mut child = Command::new(env!("CARGO_BIN_EXE_edf"))
         .arg("list")
         .args(files)

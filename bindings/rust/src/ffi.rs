@@ -208,34 +208,39 @@ pub fn keywords(header: &[u8], out: &mut [u8]) -> Result<usize, Error> {
     answer(code, position, length)
 }
 
-fn name(text: *const c_char) -> &'static str {
-    // SAFETY: `text` is an answer of bindings/c/words.c, which has string literals only: they end with a zero byte, live as long as
-    // the program and are never written.
+/// A text of bindings/c/words.c.
+///
+/// # Safety
+///
+/// `text` is an answer of that file, which has string literals only: they end with a zero byte, live as long as the program and are
+/// never written.
+unsafe fn name(text: *const c_char) -> &'static str {
+    // SAFETY: what this function asks for.
     let text = unsafe { CStr::from_ptr(text) };
     text.to_str().expect("words.c holds ASCII")
 }
 
 pub fn words(code: u8) -> &'static str {
-    // SAFETY: the call takes a number and reads its own table only, inside its bounds.
-    name(unsafe { edf_words(code) })
+    // SAFETY: the call takes a number and reads its own table only, inside its bounds; `name` gets its answer.
+    unsafe { name(edf_words(code)) }
 }
 
 pub fn field_name(field: usize) -> &'static str {
     // SAFETY: as in `words`.
-    name(unsafe { edf_field_name(field) })
+    unsafe { name(edf_field_name(field)) }
 }
 
 pub fn datatype_name(datatype: u8) -> &'static str {
     // SAFETY: as in `words`.
-    name(unsafe { edf_datatype_name(datatype) })
+    unsafe { name(edf_datatype_name(datatype)) }
 }
 
 pub fn datatype_width(datatype: u8) -> usize {
-    // SAFETY: as in `words`.
+    // SAFETY: the call takes a number and reads its own table only, inside its bounds.
     unsafe { edf_datatype_width(datatype) }
 }
 
 pub fn byteorder_name(byteorder: u8) -> &'static str {
     // SAFETY: as in `words`.
-    name(unsafe { edf_byteorder_name(byteorder) })
+    unsafe { name(edf_byteorder_name(byteorder)) }
 }
