@@ -24,7 +24,10 @@ pub fn export(path: &OsStr, block: usize, out: &OsStr, output: &mut Output) -> R
     let bytes = input::read(path)?;
     let array = File::open(&bytes).and_then(|file| file.block(block)?.array()).map_err(|error| Failure::refused(path, error))?;
     let (start, order) = preamble(format, array.description()).map_err(|why| Failure::refused(path, why))?;
+    let mut progress = Progress::new();
+    progress.stage(&format!("putting the array of {} in order", path.to_string_lossy()), array.description().byte_length());
     let pixels = array.read(order).map_err(|error| Failure::refused(path, error))?;
+    drop(progress);
     save(out, &start, &pixels).map_err(|error| Failure::unreadable(out, &error))?;
     output.line(&format!("{}: {}", out.to_string_lossy(), summary(&array, order, start.len() + pixels.len())))?;
     Ok(Status::Well)

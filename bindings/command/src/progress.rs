@@ -7,6 +7,9 @@ use std::time::{Duration, Instant};
 const SILENT: Duration = Duration::from_millis(500);
 const BETWEEN: Duration = Duration::from_millis(100);
 
+/// Bytes that take long to put in order.
+const LONG: usize = 64 << 20;
+
 pub struct Progress<W: Write> {
     screen: Option<W>,
     last: Instant,
@@ -27,14 +30,25 @@ impl<W: Write> Progress<W> {
 
     /// Tells that `done` of `all` bytes are done, where the last word was long enough ago. `all` is 0 where it is not known.
     pub fn tell(&mut self, what: &str, done: usize, all: usize) {
-        let Some(screen) = &mut self.screen else { return };
-        if self.last.elapsed() < self.wait {
+        if self.screen.is_none() || self.last.elapsed() < self.wait {
             return;
         }
         let mib = |bytes: usize| bytes >> 20;
         let share = if all > 0 { format!(" of {} MiB, {} %", mib(all), done * 100 / all) } else { " MiB".to_string() };
+        self.show(&format!("{what}: {}{share}", mib(done)));
+    }
+
+    /// Tells what is done next, where it is so many bytes that it takes long.
+    pub fn stage(&mut self, what: &str, bytes: usize) {
+        if bytes >= LONG {
+            self.show(what);
+        }
+    }
+
+    fn show(&mut self, text: &str) {
+        let Some(screen) = &mut self.screen else { return };
         // A screen that cannot be written to is no reason to stop the work.
-        let _ = write!(screen, "\r\x1b[K{what}: {}{share}", mib(done)).and_then(|()| screen.flush());
+        let _ = write!(screen, "\r\x1b[K{text}").and_then(|()| screen.flush());
         (self.last, self.wait, self.shown) = (Instant::now(), BETWEEN, true);
     }
 }
@@ -61,10 +75,18 @@ mod tests {
     }
 
     #[test]
+    fn a_stage_is_told_at_once() {
+        let mut screen = Vec::new();
+        Progress::on(Some(&mut screen), SILENT).stage("turning a", LONG);
+        assert_eq!(String::from_utf8(screen).unwrap(), "\r\x1b[Kturning a\r\x1b[K");
+    }
+
+    #[test]
     fn short_work_is_silent() {
         let mut screen = Vec::new();
         let mut progress = Progress::on(Some(&mut screen), SILENT);
         progress.tell("reading a", 3 << 20, 0);
+        progress.stage("turning a", LONG - 1);
         drop(progress);
         assert_eq!(screen, b"");
     }
