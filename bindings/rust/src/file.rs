@@ -119,27 +119,27 @@ impl<'a> File<'a> {
     }
 
     fn block_of(&self, number: usize, row: &Row) -> Block<'a> {
-        Block { file: self.bytes, number, row: *row, part: self.part(number, row) }
+        Block { file: self.bytes, number, row: *row, source: self.source(number, row) }
     }
 
     /// The part of the file in which calls on a block answer as in the whole file. A call judges the whole file that it gets, so
     /// that with the whole file each would cost the time of all headers. A block of a file without a general block is looked at by
     /// itself, if the library opens its bytes alone as one block with the same lengths, kind and identity: its answers then hang
     /// on the same header and the same data.
-    fn part(&self, number: usize, row: &Row) -> Part<'a> {
-        let alone = Part { bytes: row.bytes(self.bytes), start: row.start, number: 0 };
+    fn source(&self, number: usize, row: &Row) -> Source<'a> {
+        let alone = Source { bytes: row.bytes(self.bytes), start: row.start, number: 0 };
         let is_first = Row { start: 0, ..*row };
         if self.rows.len() > 1 && self.rows[0].kind == BlockKind::Data && rows(alone.bytes) == Ok(vec![is_first]) {
             alone
         } else {
-            Part { bytes: self.bytes, start: 0, number }
+            Source { bytes: self.bytes, start: 0, number }
         }
     }
 }
 
 /// A part of a file, where it starts, and the number that a block has in it.
 #[derive(Clone, Copy, Debug)]
-struct Part<'a> {
+struct Source<'a> {
     bytes: &'a [u8],
     start: usize,
     number: usize,
@@ -151,7 +151,7 @@ pub struct Block<'a> {
     file: &'a [u8],
     number: usize,
     row: Row,
-    part: Part<'a>,
+    source: Source<'a>,
 }
 
 impl<'a> Block<'a> {
@@ -211,8 +211,8 @@ impl<'a> Block<'a> {
     /// Where the value of a keyword stands in the file. A key is looked up without its whitespace and without regard to case: in
     /// the block's own header, then, unless it starts with EDF_, in the general header. Code 16.
     pub fn find(&self, key: impl AsRef<[u8]>) -> Result<Span, Error> {
-        let (offset, length) = ffi::find(self.part.bytes, self.part.number, key.as_ref())?;
-        Ok(Span { offset: self.part.start + offset, length })
+        let (offset, length) = ffi::find(self.source.bytes, self.source.number, key.as_ref())?;
+        Ok(Span { offset: self.source.start + offset, length })
     }
 
     /// The bytes of the value of a keyword, without outer whitespace and quotes. Code 16.
@@ -223,16 +223,16 @@ impl<'a> Block<'a> {
 
     /// The value of a keyword as text. Codes 16, 25.
     pub fn text(&self, key: impl AsRef<[u8]>) -> Result<String, Error> {
-        text::read(text::TEXT_CAPACITY, |out| ffi::text(self.part.bytes, self.part.number, key.as_ref(), out)).map(text::string)
+        text::read(text::TEXT_CAPACITY, |out| ffi::text(self.source.bytes, self.source.number, key.as_ref(), out)).map(text::string)
     }
 
     /// The value of a keyword as a whole number. Codes 16, 18.
     pub fn whole_number(&self, key: impl AsRef<[u8]>) -> Result<i64, Error> {
-        ffi::whole_number(self.part.bytes, self.part.number, key.as_ref())
+        ffi::whole_number(self.source.bytes, self.source.number, key.as_ref())
     }
 
     /// The array of the block, described. Codes 16 to 21.
     pub fn array(&self) -> Result<Array<'a>, Error> {
-        Array::describe(self.part.bytes, self.part.number)
+        Array::describe(self.source.bytes, self.source.number)
     }
 }
