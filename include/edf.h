@@ -75,8 +75,9 @@ enum { EDF_GENERAL_BLOCK = 0, EDF_DATA_BLOCK = 1 };
 enum { EDF_PSD = 1, EDF_ERROR = 2 };
 enum { EDF_UNSIGNED = 1, EDF_SIGNED = 2, EDF_FLOAT32 = 3, EDF_FLOAT64 = 4 };
 
-/* The most blocks of a file and bytes of a file; buffers that always suffice for edf_text and edf_unescape, and for edf_escape. */
-enum { EDF_MOST_BLOCKS = 256, EDF_MOST_BYTES = 1073741824, EDF_TEXT_CAPACITY = 1023, EDF_VALUE_CAPACITY = 2048 };
+/* The most blocks of a file and bytes of a file; buffers that always suffice for edf_text and edf_unescape, for edf_escape, and for
+ * edf_list. */
+enum { EDF_MOST_BLOCKS = 256, EDF_MOST_BYTES = 1073741824, EDF_TEXT_CAPACITY = 1023, EDF_VALUE_CAPACITY = 2048, EDF_LIST_CAPACITY = 65536 };
 
 /* ---- Blocks */
 
@@ -94,6 +95,14 @@ typedef struct {
  * other rows stay as they were. The table is lent as numbers, 7 to a row: for `edf_row table[EDF_MOST_BLOCKS]`, `rows` is
  * (uint64_t *)table and `rows_length` is 7 * EDF_MOST_BLOCKS. Errors: 1 to 15. */
 uint8_t edf_open(const uint8_t *file, size_t file_length, uint64_t *rows, size_t rows_length, size_t *count, size_t *position);
+
+/* The listing of a file at the front of `out`, as the lister prints it but for a file of any length; *length is its bytes: `blocks`
+ * and their number, then a line for each block; or, for a file that does not open, `refused`, code, position. EDF_LIST_CAPACITY bytes
+ * always suffice. Errors: 22. */
+uint8_t edf_list(const uint8_t *file, size_t file_length, uint8_t *out, size_t out_length, size_t *length, size_t *position);
+
+/* The length of the part of a file that `length` bytes from `offset` are: `length` where they lie inside the file, else 0. */
+size_t edf_part(const uint8_t *file, size_t file_length, size_t offset, size_t length);
 
 /* ---- Keywords. A key is looked up without its whitespace and without regard to case: in the block's own header, then, unless it
  * starts with EDF_, in the general header. */

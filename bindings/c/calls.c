@@ -84,8 +84,20 @@ static void arrays(void) {
     CHECK(edf_read_pixel(file, file_length, 0, 3, 0, 0, &class_, &unsigned_, &signed_, &float32, &float64, &position) == EDF_INDEX_OUTSIDE);
 }
 
-/* Keys without their whitespace, texts, and no text for a value that is too long. */
 static void listing(void) {
+    static const char expected[] = "blocks 1\n0 0 512 512 1.Image.Psd UnsignedShort HighByteFirst 3x2 6 1 0\n";
+    static uint8_t list[EDF_LIST_CAPACITY];
+    size_t length = 99, position = 99;
+    CHECK(edf_list(file, file_length, list, sizeof list, &length, &position) == EDF_OK && position == 99);
+    CHECK(length == strlen(expected) && memcmp(list, expected, length) == 0);
+    CHECK(edf_list(file, file_length, list, length - 1, &length, &position) == EDF_BUFFER_TOO_SMALL && position == 0);
+    CHECK(edf_list(file, 0, list, sizeof list, &length, &position) == EDF_OK && length == 12 && memcmp(list, "refused 3 0\n", 12) == 0);
+    CHECK(edf_part(file, file_length, 0, file_length) == file_length && edf_part(file, file_length, 1000, 24) == 24);
+    CHECK(edf_part(file, file_length, 1000, 25) == 0 && edf_part(file, file_length, SIZE_MAX, 2) == 0);
+}
+
+/* Keys without their whitespace, texts, and no text for a value that is too long. */
+static void keyword_list(void) {
     static uint8_t header[4096];
     size_t length = 99, position = 99, used = (size_t)sprintf((char *)header, "\r\n{ a b= \"x\\:y\" ;\nC=;long = ");
     memset(header + used, 'z', 1024);
@@ -118,7 +130,7 @@ static void words(void) {
 }
 
 int main(void) {
-    writing(), opening(), keywords(), arrays(), listing(), words();
+    writing(), opening(), keywords(), arrays(), listing(), keyword_list(), words();
     printf("%d passed, %d failed\n", passed, wrong);
     return wrong != 0;
 }

@@ -33,6 +33,7 @@ MOST_BLOCKS = 256
 MOST_BYTES = 1 << 30
 _TEXT_CAPACITY = 1023
 _VALUE_CAPACITY = 2048
+_LIST_CAPACITY = 65536
 _HEADER_CAPACITY = 4096  # more than the header and the filling of a written file
 
 # ---- The library
@@ -59,6 +60,7 @@ def _load():
     buffer_out = [c_void_p, c_size_t, number_out, number_out]
     calls = {
         "edf_open": bytes_in + buffer_out,
+        "edf_list": bytes_in + buffer_out,
         "edf_find": keyword + [number_out] * 3,
         "edf_text": keyword + buffer_out,
         "edf_whole_number": keyword + [POINTER(c_int64), number_out],
@@ -79,6 +81,7 @@ def _load():
                            ("edf_byteorder_name", c_uint8)):
         function = getattr(library, name)
         function.argtypes, function.restype = [argument], c_char_p
+    library.edf_part.argtypes, library.edf_part.restype = bytes_in + [c_size_t, c_size_t], c_size_t
     library.edf_datatype_width.argtypes, library.edf_datatype_width.restype = [c_uint8], c_size_t
     return library
 
@@ -391,6 +394,13 @@ class File:
         (address, _length, _owner), block = self._open_bytes(), self.blocks[number]
         return _keywords(address + block.start, block.header_length)
 
+    def part(self, offset, length):
+        """The bytes at a span of the file, as `find` gives it; none where it does not lie inside."""
+        address, size, _owner = self._open_bytes()
+        if min(offset, length) < 0 or max(offset, length) > size:
+            return b""  # no span of a file, and no number for ctypes, which would cut it
+        return ctypes.string_at(address + offset, _library.edf_part(address, size, offset, length))
+
     def find(self, block, key):
         """Offset and length of the value of a keyword in the file."""
         key, offset, length = _encoded(key), c_size_t(), c_size_t()
@@ -463,6 +473,12 @@ def open(path):
         if os.fstat(stream.fileno()).st_size == 0:
             return File(b"")
         return File(mmap.mmap(stream.fileno(), 0, access=mmap.ACCESS_COPY))
+
+
+def listing(data):
+    """What the lister prints for the bytes of a file, whether it opens or not."""
+    address, length, _owner = _lent(data)
+    return _into(_LIST_CAPACITY, _library.edf_list, address, length).decode("ascii")
 
 
 # ---- Writing

@@ -82,6 +82,12 @@ class Fixtures(unittest.TestCase):
             with open(path[:-4] + ".list") as expected:
                 self.assertEqual(listed(path), expected.read(), path)
 
+    def test_listing(self):
+        for path in glob.glob(fixture("*.edf")):
+            with open(path, "rb") as data, open(path[:-4] + ".list") as expected:
+                self.assertEqual(edf.listing(data.read()), expected.read(), path)
+        self.assertEqual(edf.listing(b""), "refused 3 0\n")
+
     def test_header_agrees_with_lookup(self):
         compared = 0
         for name, file in opened():
@@ -143,6 +149,9 @@ class Blocks(unittest.TestCase):
             with open(fixture("title_escapes.edf"), "rb") as stream:
                 raw = stream.read()[offset : offset + length]
             self.assertEqual(edf.unescape(b'"' + raw + b'"'), file.text(0, "Title"))
+            self.assertEqual(file.part(offset, length), raw)
+            for span in ((1024, 0), (1000, 25), (-1, 1), (0, 1 << 64), (1 << 64, 0), (1 << 64, 1)):
+                self.assertEqual(file.part(*span), b"", span)
             self.assertEqual(file.whole_number(0, "Dim_1"), 3)
 
     def test_errors(self):

@@ -12,6 +12,10 @@ extern "C" {
     fn edf_open(
         file: *const u8, file_length: usize, rows: *mut u64, rows_length: usize, count: *mut usize, position: *mut usize,
     ) -> u8;
+    fn edf_list(
+        file: *const u8, file_length: usize, out: *mut u8, out_length: usize, length: *mut usize, position: *mut usize,
+    ) -> u8;
+    fn edf_part(file: *const u8, file_length: usize, offset: usize, length: usize) -> usize;
     fn edf_find(
         file: *const u8, file_length: usize, block: usize, key: *const u8, key_length: usize, offset: *mut usize,
         length: *mut usize, position: *mut usize,
@@ -105,6 +109,18 @@ pub fn open(file: &[u8], rows: &mut [u64]) -> Result<usize, Error> {
     // SAFETY: `file` and `rows` are slices with their own lengths, the rest local numbers (see the top of this file).
     let code = unsafe { edf_open(file.as_ptr(), file.len(), rows.as_mut_ptr(), rows.len(), &mut count, &mut position) };
     answer(code, position, count)
+}
+
+pub fn list(file: &[u8], out: &mut [u8]) -> Result<usize, Error> {
+    let (mut length, mut position) = (0, 0);
+    // SAFETY: `file` and `out` are slices with their own lengths, the rest local numbers (see the top of this file).
+    let code = unsafe { edf_list(file.as_ptr(), file.len(), out.as_mut_ptr(), out.len(), &mut length, &mut position) };
+    answer(code, position, length)
+}
+
+pub fn part(file: &[u8], offset: usize, length: usize) -> usize {
+    // SAFETY: `file` is a slice with its own length, the rest numbers (see the top of this file).
+    unsafe { edf_part(file.as_ptr(), file.len(), offset, length) }
 }
 
 pub fn find(file: &[u8], block: usize, key: &[u8]) -> Result<(usize, usize), Error> {

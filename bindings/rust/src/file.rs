@@ -107,6 +107,12 @@ impl<'a> File<'a> {
         self.bytes
     }
 
+    /// The bytes at a span; none where it does not lie inside the file.
+    pub fn part(&self, span: Span) -> &'a [u8] {
+        let length = ffi::part(self.bytes, span.offset, span.length);
+        self.bytes.get(span.offset..).map_or(&[], |rest| &rest[..length])
+    }
+
     /// The blocks, in the file's order.
     pub fn blocks(&self) -> impl ExactSizeIterator<Item = Block<'a>> + '_ {
         self.rows.iter().enumerate().map(|(number, row)| self.block_of(number, row))

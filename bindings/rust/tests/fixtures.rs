@@ -88,6 +88,16 @@ fn pixels_are_the_array() {
 }
 
 #[test]
+fn parts() {
+    let bytes = fixture("raster_7.edf");
+    let file = File::open(&bytes).unwrap();
+    let part = |offset, length| file.part(edf::Span { offset, length });
+    assert_eq!(file.part(file.block(0).unwrap().find("DataType").unwrap()), b"UnsignedShort");
+    assert_eq!(part(0, bytes.len()), bytes);
+    assert_eq!((part(1, bytes.len()), part(bytes.len(), 0), part(usize::MAX, 2)), (&[][..], &[][..], &[][..]));
+}
+
+#[test]
 fn raster_7_is_undone() {
     let bytes = fixture("raster_7.edf");
     let array = File::open(&bytes).unwrap().block(0).unwrap().array().unwrap();
