@@ -14,7 +14,7 @@
 Errors of the library are EdfError, with `code`, `position` and `words`; a file that cannot be read is OSError.
 
 The shared object is looked for in the environment variable EDF_LIBRARY, beside this file, in ../../target/lib, and where the system
-looks. Everything that is read in a file the library reads.
+looks. What of this is proved, and what is not, is said in docs/BINDINGS.md.
 """
 
 import collections.abc
@@ -274,10 +274,10 @@ class Header(collections.abc.Mapping):
     header come first, then those of the general header that hold for the block."""
 
     def __init__(self, own, general):
-        self._texts, self._written = own, None
-        for key, text in general.items():
-            if not key.lower().startswith("edf_") and self._found(key) is None:
-                self._texts[key], self._written = text, None
+        self._texts, self._written = own, None  # text by key; key by folded key, made when it is needed
+        if general:
+            taken = {key.lower() for key in own}
+            own.update((key, text) for key, text in general.items() if key.lower() not in taken and not key.lower().startswith("edf_"))
 
     def _found(self, key):
         """The key as it is written in the header, or None."""
