@@ -1,12 +1,12 @@
 """How long Python takes to read files of this format: fabio, numpy by hand, and this library through bindings/python/edf.py, on the
-same files, in one run, in turns; the best of several, in time of this process (user and system), which other work on the machine
-disturbs least. What they read is compared first. Prints tables.
+same files, in one run, in turns; the best of many. What they read is compared first. Prints tables.
 
-fabio is the reader that this field uses. "numpy" is what one writes who knows where the pixels are and how they are stored:
-numpy.fromfile, then the bytes in this machine's order and the array in raster configuration 1. Each answers an array of its own, in
-this machine's byte order."""
+fabio is the reader that this field uses. "fromfile" and "memmap" are what one writes with numpy alone who knows already where the
+pixels are and how they are stored: numpy.fromfile or numpy.memmap, then the bytes in this machine's order and the array in raster
+configuration 1. They check nothing and do not read the header. Each answers an array of its own, in this machine's byte order."""
 
 import os
+import shutil
 import sys
 import tempfile
 import time
@@ -21,27 +21,28 @@ import fabio  # noqa: E402
 import numpy  # noqa: E402
 
 logging.disable(logging.CRITICAL)
-behind = []
+behind = {"fabio": [], "numpy": []}
 
 
 def best(calls):
-    """The least time of each call in ms, over turns in which each is made once: at least nine, and for half a second."""
-    least, turns, end = [float("inf")] * len(calls), 0, time.process_time() + 0.5
-    while turns < 9 or time.process_time() < end:
+    """The least time of each call in ms, over turns in which each is made once, each turn starting with another: at least 15
+    turns, and for a second."""
+    least, turns, end = [float("inf")] * len(calls), 0, time.perf_counter() + 1
+    while turns < 15 or time.perf_counter() < end:
         turns += 1
-        for n, call in enumerate(calls):
-            start = time.process_time()
-            result = call()
-            least[n] = min(least[n], time.process_time() - start)
+        for n in range(turns, turns + len(calls)):
+            start = time.perf_counter()
+            result = calls[n % len(calls)]()
+            least[n % len(calls)] = min(least[n % len(calls)], time.perf_counter() - start)
             del result
     return [1000 * t for t in least]
 
 
 def cells(name, others, own):
     """The times of a row and their ratios to this library's time; notes the rows where it is behind."""
-    for other in others:
-        if other is not None and own >= other:
-            behind.append(name)
+    for n, other in enumerate(others):
+        if other is not None and own >= other and name not in behind["numpy" if n else "fabio"]:
+            behind["numpy" if n else "fabio"].append(name)
     times = ["%.3f" % t if t is not None else "-" for t in others + [own]]
     ratios = ["%.2f" % (t / own) if t is not None else "-" for t in others]
     print("| " + " | ".join([name] + times + ratios) + " |", flush=True)
@@ -79,15 +80,21 @@ def one_image(folder, data_type, low_first, configuration=1, offset=0, side=2048
     def by_fabio():
         return fabio.open(path).data
 
-    def by_numpy():
-        array = numpy.fromfile(path, stored, side * side, offset=len(start)).reshape(side, side)
+    def by_fromfile():
+        return delivered(numpy.fromfile(path, stored, side * side, offset=len(start)).reshape(side, side))
+
+    def by_memmap():
+        return delivered(numpy.memmap(path, stored, "r", len(start), (side, side)), copied=True)
+
+    def delivered(array, copied=False):
         if configuration in (2, 4):
             array = array[:, ::-1]
         if configuration in (3, 4):
             array = array[::-1]
         if configuration == 6:  # (2,-1)
             array = array[::-1].T
-        array = numpy.ascontiguousarray(array, stored.newbyteorder("="))
+        native = stored.newbyteorder("=")
+        array = numpy.array(array, native, order="C", subok=False) if copied else numpy.ascontiguousarray(array, native)
         if offset:
             wide = array.astype("i8") + offset
             limits = numpy.iinfo(array.dtype)
@@ -99,10 +106,11 @@ def one_image(folder, data_type, low_first, configuration=1, offset=0, side=2048
             return file.array(0)
 
     plain = configuration == 1 and not offset
-    expected = by_numpy()
+    expected = by_fromfile()
     assert (by_edf() == expected).all() and by_edf().dtype == expected.dtype
+    assert (by_memmap() == expected).all() and by_memmap().flags.owndata
     assert not plain or (by_fabio() == expected).all()
-    calls = ([by_fabio] if plain else []) + [by_numpy, by_edf]
+    calls = ([by_fabio] if plain else []) + [by_fromfile, by_memmap, by_edf]
     times = best(calls)
     name = "%s, %s" % (data_type, "low byte first" if low_first else "high byte first")
     name += ", configuration %d" % configuration if configuration != 1 else ""
@@ -112,7 +120,8 @@ def one_image(folder, data_type, low_first, configuration=1, offset=0, side=2048
 
 
 def images(folder):
-    print("| reading an image of 2,048 by 2,048 | fabio ms | numpy ms | edf ms | fabio / edf | numpy / edf |\n|---|---|---|---|---|---|")
+    print("| reading an image of 2,048 by 2,048 | fabio ms | fromfile ms | memmap ms | edf ms | fabio / edf | fromfile / edf | memmap / edf |")
+    print("|---|---|---|---|---|---|---|---|")
     for data_type in KINDS:
         for low_first in (True, False):
             one_image(folder, data_type, low_first)
@@ -193,8 +202,9 @@ def main():
                 many_frames(folder, frames, keywords, 256)
         many_frames(folder, 16, 10, 2048)
     finally:
-        os.rmdir(folder)
-    print("\n" + ("behind: " + "; ".join(behind) if behind else "This library is ahead on every row."))
+        shutil.rmtree(folder)
+    for other, rows in behind.items():
+        print("\nbehind %s on %d rows%s" % (other, len(rows), ": " + "; ".join(rows) if rows else ""))
 
 
 main()

@@ -1,5 +1,5 @@
 // How long the calls on a block take, beside opening the same file: each opens it anew. One line for each case, with the last block
-// of the file; the best of several turns of many calls, in time of this process.
+// of the file; the best of several turns of many calls.
 #include <stdint.h>
 #include <stdio.h>
 #include <stdlib.h>
@@ -9,7 +9,7 @@
 
 static double now(void) {
     struct timespec t;
-    clock_gettime(CLOCK_PROCESS_CPUTIME_ID, &t);
+    clock_gettime(CLOCK_MONOTONIC, &t);
     return t.tv_sec * 1e6 + t.tv_nsec / 1e3;
 }
 
