@@ -470,8 +470,8 @@ def open(path):
     """Opens a file by its path. It is mapped, so that only what is asked for is read; no other program may change it meanwhile. A
     file that may change is read instead: edf.File(pathlib.Path(path).read_bytes())."""
     with io.open(path, "rb", buffering=0) as stream:
-        if os.fstat(stream.fileno()).st_size == 0:
-            return File(b"")
+        if os.fstat(stream.fileno()).st_size == 0:  # nothing to map: an empty file, or a pipe
+            return File(stream.read())
         return File(mmap.mmap(stream.fileno(), 0, access=mmap.ACCESS_COPY))
 
 

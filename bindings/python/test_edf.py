@@ -229,6 +229,11 @@ class Blocks(unittest.TestCase):
                 edf.open(stream.name)
         with open(fixture("raster_7.edf"), "rb") as stream:
             data = stream.read()
+        reading, writing = os.pipe()
+        os.write(writing, data)
+        os.close(writing)
+        self.assertEqual(edf.open("/dev/fd/%d" % reading).pixel(0, 2, 1), 6)
+        os.close(reading)
         twice = bytes(byte for byte in data for _ in range(2))
         for same in (data, bytearray(data), memoryview(data), memoryview(bytearray(data)), memoryview(twice)[::2]):
             self.assertEqual(edf.File(same).pixel(0, 2, 1), 6)
