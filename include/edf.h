@@ -77,7 +77,7 @@ enum { EDF_UNSIGNED = 1, EDF_SIGNED = 2, EDF_FLOAT32 = 3, EDF_FLOAT64 = 4 };
 
 /* The most blocks of a file and bytes of a file; buffers that always suffice for edf_text and edf_unescape, for edf_escape, and for
  * edf_list. */
-enum { EDF_MOST_BLOCKS = 256, EDF_MOST_BYTES = 1073741824, EDF_TEXT_CAPACITY = 1023, EDF_VALUE_CAPACITY = 2048, EDF_LIST_CAPACITY = 65536 };
+enum { EDF_MOST_BLOCKS = 256, EDF_MOST_BYTES = 1073741824, EDF_TEXT_CAPACITY = 1023, EDF_VALUE_CAPACITY = 2048, EDF_LIST_CAPACITY = 75292 };
 
 /* ---- Blocks */
 

@@ -33,7 +33,7 @@ MOST_BLOCKS = 256
 MOST_BYTES = 1 << 30
 _TEXT_CAPACITY = 1023
 _VALUE_CAPACITY = 2048
-_LIST_CAPACITY = 65536
+_LIST_CAPACITY = 75292
 _HEADER_CAPACITY = 4096  # more than the header and the filling of a written file
 
 # ---- The library

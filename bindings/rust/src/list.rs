@@ -3,7 +3,7 @@
 use crate::{ffi, text};
 
 /// Bytes that suffice for every listing.
-const CAPACITY: usize = 65_536;
+const CAPACITY: usize = 75_292;
 
 /// What the lister of document 01 prints for a file, at any length: `blocks` and their number, then a line for each block, or one
 /// line `refused`, code, position.
@@ -15,5 +15,5 @@ const CAPACITY: usize = 65_536;
 /// # Ok::<(), edf::Error>(())
 /// ```
 pub fn list(bytes: &[u8]) -> String {
-    text::read(CAPACITY, |out| ffi::list(bytes, out)).map(text::string).expect("65,536 bytes suffice for every listing")
+    text::read(CAPACITY, |out| ffi::list(bytes, out)).map(text::string).expect("75,292 bytes suffice for every listing, which is proved")
 }
