@@ -97,7 +97,7 @@ int main(void) {
             size_t n = 0;
             for (int i = 0; i < blocks[b]; i++) n = put_block(f, n, keywords[k], 65536);
             double best[2] = {1e18, 1e18};
-            for (int turn = 0; turn < 50; turn++) {
+            for (int turn = 0; turn < 500; turn++) {
                 size_t count = 0, position = 0;
                 double t0 = now();
                 size_t expected = plain_open(f, n);

@@ -1,26 +1,14 @@
-/* ESRF Data Format files, from C. Link with target/staticlib/libedf_c.a, which `rt staticlib edf_c` makes.
+/* ESRF Data Format files, from C and C++. `bash bindings/build` makes target/lib/libedf.a and target/lib/libedf.so; link one of them.
  *
- * Every call answers 0, or the code of an error. In success the numbers behind `value`, `offset`, `length` .. are set and *position
- * stays as it was; in an error *position is set, and all the other numbers and buffers that are lent stay as they were.
+ * Every call that answers a uint8_t answers EDF_OK, or the code of an error. In success the numbers behind `value`, `offset`,
+ * `length` .. are set and *position stays as it was; in an error *position is set, and all the other numbers and buffers that are
+ * lent stay as they were.
  * A slice is a pointer and the number of its bytes, or for the table of edf_open the number of its 64-bit numbers. No pointer may be
- * NULL, also where that number is 0, and what is lent for writing must not overlap anything else that the call gets.
+ * NULL, also where that number is 0, and what is lent for writing must not overlap anything else that the call gets. The bytes of
+ * a file must not change during a call: a file that another program may still write is to be read, not mapped.
  *
- * Calls with `file` and `block` judge the whole file first: its errors are 1 and 3 to 15, with their positions. Blocks are numbered
- * from 0.
- *
- *   1 file over 1,073,741,824 bytes          14 bytes left after 256 blocks
- *   2 table under 256 rows                   15 EDF_DataBlocks does not match
- *   3 no start of a header here              16 no such block or keyword, or an array asked of the general block
- *   4 a byte that can't stand in a header    17 unknown word; the position is the field's number, 1 to 3
- *   5 header without an end                  18 bad number or range; the position is the field's number, 4 to 7, or 0
- *   6 statement broken                       19 Dim_1 to Dim_4 all found
- *   7 key or value too long                  20 data shorter than the array
- *   8 key twice                              21 nonzero offset on floats
- *   9 a rule on EDF_ keys or Size broken     22 buffer too small
- *  10 EDF_BinaryFileName                     23 index outside
- *  11 header length                          24 bad argument
- *  12 data past the end of the file          25 text too long
- *  13 identity twice
+ * Calls with `file` and `block` judge the whole file first: its errors are "those of opening", 1 and 3 to 15, with their positions.
+ * Blocks are numbered from 0. No call keeps anything: every one may be made from several threads at once.
  */
 #ifndef EDF_H
 #define EDF_H
@@ -32,8 +20,70 @@
 extern "C" {
 #endif
 
-/* A block of a file, as edf_open gives it: its start, the length of its header, the size of its data, and its kind, 0 for a general
- * block and 1 for a data block; then its identity, with instance 1 for Psd and 2 for Error. */
+/* ---- Numbers */
+
+/* The codes of errors. Positions: for 1, 2 and 15 it is 0; for 3 and 5 to 14 the offset of the block's start in the file; for 4 the
+ * offset of the byte; for 17 and 18 the number of the field, 1 to 7 (edf_field_name), or 0 where a keyword is read as a whole
+ * number; for all others 0. edf_words gives the words. */
+enum {
+    EDF_OK = 0,
+    EDF_FILE_TOO_LARGE = 1,        /* file over 1,073,741,824 bytes */
+    EDF_TABLE_TOO_SMALL = 2,       /* table under 256 rows */
+    EDF_NO_HEADER = 3,             /* no start of a header here */
+    EDF_BAD_HEADER_BYTE = 4,       /* byte 0, a byte above 127 or `{` inside a header */
+    EDF_NO_HEADER_END = 5,         /* no `}` with LF or CR LF after it in the block's first 65,536 bytes */
+    EDF_BAD_STATEMENT = 6,         /* something after the last `;`, a statement without `=`, or an empty key */
+    EDF_TOO_LONG = 7,              /* key over 64 characters or value over 2,048 bytes */
+    EDF_KEY_REPEATED = 8,          /* key twice in a header */
+    EDF_KEY_RULE_BROKEN = 9,       /* a rule on EDF_ keys or Size broken */
+    EDF_DATA_ELSEWHERE = 10,       /* EDF_BinaryFileName counts: the data is in another file */
+    EDF_BAD_HEADER_LENGTH = 11,    /* header length not a multiple of the boundary, or not EDF_HeaderSize */
+    EDF_DATA_PAST_END = 12,        /* data past the end of the file */
+    EDF_IDENTITY_REPEATED = 13,    /* identity twice */
+    EDF_TOO_MANY_BLOCKS = 14,      /* bytes left after 256 blocks */
+    EDF_BLOCK_COUNT_WRONG = 15,    /* EDF_DataBlocks does not match */
+    EDF_NOT_FOUND = 16,            /* no such block or keyword, or an array asked of the general block */
+    EDF_UNKNOWN_WORD = 17,         /* unknown word */
+    EDF_BAD_NUMBER = 18,           /* bad number or range */
+    EDF_TOO_MANY_DIMENSIONS = 19,  /* Dim_1 to Dim_4 all found */
+    EDF_DATA_TOO_SHORT = 20,       /* data shorter than the array */
+    EDF_OFFSET_ON_FLOATS = 21,     /* nonzero offset on floats */
+    EDF_BUFFER_TOO_SMALL = 22,     /* buffer too small */
+    EDF_INDEX_OUTSIDE = 23,        /* index outside the array */
+    EDF_BAD_ARGUMENT = 24,         /* bad argument */
+    EDF_TEXT_TOO_LONG = 25         /* text over 1,023 characters */
+};
+
+/* Data types, as edf_describe gives them and edf_write takes them. */
+enum {
+    EDF_UNSIGNED_BYTE = 1,
+    EDF_SIGNED_BYTE = 2,
+    EDF_UNSIGNED_SHORT = 3,
+    EDF_SIGNED_SHORT = 4,
+    EDF_UNSIGNED_INTEGER = 5,
+    EDF_SIGNED_INTEGER = 6,
+    EDF_FLOAT_IEEE32 = 7,
+    EDF_UNSIGNED_64 = 8,
+    EDF_SIGNED_64 = 9,
+    EDF_FLOAT_IEEE64 = 10
+};
+
+/* Byte orders; compression; kinds of blocks; instances; classes of pixels. */
+enum { EDF_HIGH_BYTE_FIRST = 1, EDF_LOW_BYTE_FIRST = 2 };
+enum { EDF_COMPRESSION_NONE = 1 };
+enum { EDF_GENERAL_BLOCK = 0, EDF_DATA_BLOCK = 1 };
+enum { EDF_PSD = 1, EDF_ERROR = 2 };
+enum { EDF_UNSIGNED = 1, EDF_SIGNED = 2, EDF_FLOAT32 = 3, EDF_FLOAT64 = 4 };
+
+/* The most blocks of a file and bytes of a file; buffers that always suffice for edf_text and edf_unescape, for edf_escape, and for
+ * edf_list. */
+enum { EDF_MOST_BLOCKS = 256, EDF_MOST_BYTES = 1073741824, EDF_TEXT_CAPACITY = 1023, EDF_VALUE_CAPACITY = 2048, EDF_LIST_CAPACITY = 75292 };
+
+/* ---- Blocks */
+
+/* A block of a file, as edf_open gives it: its start, the length of its header, the size of its data, and its kind,
+ * EDF_GENERAL_BLOCK or EDF_DATA_BLOCK; then its identity, with instance EDF_PSD or EDF_ERROR. The identity of a general block, and
+ * of any block of a file without EDF_ keys at its start, is 0, 0, 0. */
 typedef struct {
     uint64_t start, header, size, kind;
     int64_t sequence;
@@ -42,51 +92,94 @@ typedef struct {
 } edf_row;
 
 /* Opens a file into a table of at least 256 rows: *count is the number of its blocks, and the first rows are theirs, in order; the
- * other rows stay as they were. The table is lent as numbers, 7 to a row: for `edf_row table[256]`, `rows` is (uint64_t *)table and
- * `rows_length` is 7 * 256. Errors: 1 to 15. */
+ * other rows stay as they were. The table is lent as numbers, 7 to a row: for `edf_row table[EDF_MOST_BLOCKS]`, `rows` is
+ * (uint64_t *)table and `rows_length` is 7 * EDF_MOST_BLOCKS. Errors: 1 to 15. */
 uint8_t edf_open(const uint8_t *file, size_t file_length, uint64_t *rows, size_t rows_length, size_t *count, size_t *position);
 
-/* The array of a block at the front of `out`, in the byte order 1, high byte first, or 2, low byte first; *length is its bytes.
- * Index 1 runs fastest. Errors: those of edf_describe, 24, 22. */
-uint8_t edf_read_array(const uint8_t *file, size_t file_length, size_t block, uint8_t order, uint8_t *out, size_t out_length,
-                       size_t *length, size_t *position);
+/* The listing of a file at the front of `out`, as the lister prints it but for a file of any length; *length is its bytes: `blocks`
+ * and their number, then a line for each block; or, for a file that does not open, `refused`, code, position. EDF_LIST_CAPACITY bytes
+ * always suffice. Errors: 22. */
+uint8_t edf_list(const uint8_t *file, size_t file_length, uint8_t *out, size_t out_length, size_t *length, size_t *position);
 
-/* A file of one block at the front of `out`; *length is its bytes. The codes are those of edf_describe; dimensions past `n` are not
- * read. The pixels come in configuration 1, high byte first. Errors: 24, 25, 22. */
-uint8_t edf_write(int64_t sequence, uint8_t instance, int64_t memory, uint8_t datatype, uint8_t byteorder, uint8_t n, size_t dim1,
-                  size_t dim2, size_t dim3, uint32_t configuration, const uint8_t *title, size_t title_length,
-                  const uint8_t *pixels, size_t pixels_length, uint8_t *out, size_t out_length, size_t *length, size_t *position);
+/* The length of the part of a file that `length` bytes from `offset` are: `length` where they lie inside the file, else 0. */
+size_t edf_part(const uint8_t *file, size_t file_length, size_t offset, size_t length);
 
-/* The value of a keyword as text at the front of `out`; *length is its bytes. Errors: those of opening, 16, 25, 22. */
-uint8_t edf_text(const uint8_t *file, size_t file_length, size_t block, const uint8_t *key, size_t key_length, uint8_t *out,
-                 size_t out_length, size_t *length, size_t *position);
-
-/* Text in value form at the front of `out`; *length is its bytes. Errors: 24, 25, 22. */
-uint8_t edf_escape(const uint8_t *bytes, size_t bytes_length, uint8_t *out, size_t out_length, size_t *length, size_t *position);
-
-/* The text of the bytes between `=` and `;` at the front of `out`; *length is its bytes. Errors: 24, 25, 22. */
-uint8_t edf_unescape(const uint8_t *value, size_t value_length, uint8_t *out, size_t out_length, size_t *length, size_t *position);
-
-/* The value of a keyword as a whole number. Errors: those of opening, 16, 18 at position 0. */
-uint8_t edf_whole_number(const uint8_t *file, size_t file_length, size_t block, const uint8_t *key, size_t key_length,
-                         int64_t *value, size_t *position);
+/* ---- Keywords. A key is looked up without its whitespace and without regard to case: in the block's own header, then, unless it
+ * starts with EDF_, in the general header. */
 
 /* Where the value of a keyword stands in the file. Errors: those of opening, 16. */
 uint8_t edf_find(const uint8_t *file, size_t file_length, size_t block, const uint8_t *key, size_t key_length, size_t *offset,
                  size_t *length, size_t *position);
 
-/* The description of a block's array. Codes: datatype 1 to 10 for UnsignedByte, SignedByte, UnsignedShort, SignedShort,
- * UnsignedInteger, SignedInteger, FloatIEEE32, Unsigned64, Signed64, FloatIEEE64; byteorder 1 high byte first, 2 low byte first;
- * compression 1 none. There are `n` dimensions; those past `n` are 1. Errors: those of opening, 16 to 21. */
+/* The value of a keyword as text at the front of `out`; *length is its bytes. Errors: those of opening, 16, 25, 22. */
+uint8_t edf_text(const uint8_t *file, size_t file_length, size_t block, const uint8_t *key, size_t key_length, uint8_t *out,
+                 size_t out_length, size_t *length, size_t *position);
+
+/* The value of a keyword as a whole number. Errors: those of opening, 16, 18 at position 0. */
+uint8_t edf_whole_number(const uint8_t *file, size_t file_length, size_t block, const uint8_t *key, size_t key_length,
+                         int64_t *value, size_t *position);
+
+/* Text in value form, in quotes and with escapes, at the front of `out`; *length is its bytes. Errors: 24 (byte 0 or a byte above
+ * 127), 25, 22. */
+uint8_t edf_escape(const uint8_t *bytes, size_t bytes_length, uint8_t *out, size_t out_length, size_t *length, size_t *position);
+
+/* The text of the bytes between `=` and `;` at the front of `out`; *length is its bytes. Errors: 24 (byte 0, a byte above 127,
+ * `{`, `}` or `;`), 25, 22. */
+uint8_t edf_unescape(const uint8_t *value, size_t value_length, uint8_t *out, size_t out_length, size_t *length, size_t *position);
+
+/* ---- Arrays */
+
+/* The description of a block's array: its data type, byte order, compression, `n` dimensions (those past `n` are 1), raster
+ * configuration, raster orientation and value offset. Errors: those of opening, 16 to 21. */
 uint8_t edf_describe(const uint8_t *file, size_t file_length, size_t block, uint8_t *datatype, uint8_t *byteorder,
                      uint8_t *compression, uint8_t *n, size_t *dim1, size_t *dim2, size_t *dim3, uint32_t *configuration,
                      uint32_t *orientation, int64_t *offset, size_t *position);
 
-/* One pixel of a block's array, at an index of three numbers from 0; those past the array's dimensions are 0. *class_ is 1 for an
- * unsigned and 2 for a signed whole number, 3 for a 32-bit and 4 for a 64-bit float, and the number of that class is set; the
- * numbers of the other classes stay as they were. Errors: those of edf_describe, 23. */
+/* The array of a block at the front of `out`, in raster configuration 1 (index 1 runs fastest), with its value offset added, in the
+ * byte order `order`; *length is its bytes, dim1 * dim2 * dim3 * edf_datatype_width(datatype). Errors: those of edf_describe, 24 (a
+ * bad order), 22. */
+uint8_t edf_read_array(const uint8_t *file, size_t file_length, size_t block, uint8_t order, uint8_t *out, size_t out_length,
+                       size_t *length, size_t *position);
+
+/* One pixel of a block's array, at an index of three numbers from 0; those past the array's dimensions are 0. *class_ is
+ * EDF_UNSIGNED, EDF_SIGNED, EDF_FLOAT32 or EDF_FLOAT64, and the number of that class is set; the numbers of the other classes stay
+ * as they were. Errors: those of edf_describe, 23. */
 uint8_t edf_read_pixel(const uint8_t *file, size_t file_length, size_t block, size_t i1, size_t i2, size_t i3, uint8_t *class_,
                        uint64_t *unsigned_, int64_t *signed_, float *float32, double *float64, size_t *position);
+
+/* ---- Writing */
+
+/* A file of one block at the front of `out`; *length is its bytes. Dimensions past `n` are not read. The pixels come in raster
+ * configuration 1, high byte first; they are stored in the configuration and byte order asked for. `pixels_length + 4096` bytes
+ * always suffice. Errors: 24 (a code, dimension, configuration or memory that there is not, pixels of another length, a byte 0 or
+ * above 127 in the title, a file over the limit), 25, 22. */
+uint8_t edf_write(int64_t sequence, uint8_t instance, int64_t memory, uint8_t datatype, uint8_t byteorder, uint8_t n, size_t dim1,
+                  size_t dim2, size_t dim3, uint32_t configuration, const uint8_t *title, size_t title_length,
+                  const uint8_t *pixels, size_t pixels_length, uint8_t *out, size_t out_length, size_t *length, size_t *position);
+
+/* ---- What is not proved: C, in libedf (bindings/c), not in libedf_c */
+
+/* The keywords of a header, in its order: `header` and `header_length` are the bytes of a header that edf_open accepted. For each, at
+ * the front of `out`: its key as it is written but without whitespace, byte 0, its value as text, byte 0; for a text over 1,023
+ * characters the byte EDF_NO_TEXT alone. *length is the number of bytes. `header_length` bytes suffice and are asked for.
+ * Errors: 22. */
+enum { EDF_NO_TEXT = 255 };
+uint8_t edf_keywords(const uint8_t *header, size_t header_length, uint8_t *out, size_t out_length, size_t *length, size_t *position);
+
+
+/* The words for the code of an error, which like those below live as long as the program; "no error" for 0, "unknown code" above 25. */
+const char *edf_words(uint8_t code);
+
+/* The field that position 1 to 7 of errors 17 and 18 names: "DataType", "ByteOrder", "Compression", "Dim_1 to Dim_3",
+ * "DataRasterConfiguration", "RasterOrientation", "DataValueOffset"; "" for every other number. */
+const char *edf_field_name(size_t field);
+
+/* The word of a data type, as "UnsignedShort", and the bytes of its elements; "" and 0 for a code that is none. */
+const char *edf_datatype_name(uint8_t datatype);
+size_t edf_datatype_width(uint8_t datatype);
+
+/* The word of a byte order, "HighByteFirst" or "LowByteFirst"; "" for a code that is none. */
+const char *edf_byteorder_name(uint8_t byteorder);
 
 #ifdef __cplusplus
 }

@@ -24,14 +24,17 @@ fn mix(h: u64, b: u8) -> u64
     y ^ (y / 536870912)
 }
 
-// One byte of a key more, as it stands in the file.
+// One byte of a key more, as it stands in the file. Most bytes are above the space, so these are settled first.
 fn mix_key_byte(h: u64, b: u8) -> u64
     ensures { λ r. ⌜ r ≡ mixedKeyByte h b ⌝ }
 {
+    if 32 < b {
+        return mix(h, fold_byte(b));
+    }
     if is_whitespace(b) {
         return h;
     }
-    mix(h, fold_byte(b))
+    mix(h, b)
 }
 
 // The hash of a key, without whitespace and folded.

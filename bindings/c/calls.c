@@ -1,0 +1,136 @@
+/* Each call of edf.h once in success and once in an error, and the words for all numbers. Prints the checks that fail, then
+ * `N passed, M failed`. */
+#include <stdio.h>
+#include <string.h>
+#include "edf.h"
+
+static int passed, wrong;
+
+static void check(int holds, const char *what) {
+    holds ? passed++ : wrong++;
+    if (!holds) printf("wrong: %s\n", what);
+}
+#define CHECK(condition) check((condition) != 0, #condition)
+
+#define BYTES(text) (const uint8_t *)(text), strlen(text)
+
+static uint8_t file[8192], out[4096];
+static size_t file_length;
+
+/* The example of document 01: 3 by 2 in configuration 6. */
+static void writing(void) {
+    const uint8_t pixels[] = {0, 1, 0, 2, 0, 3, 0, 4, 0, 5, 0, 6};
+    size_t position = 99;
+    CHECK(edf_write(1, EDF_PSD, 1, EDF_UNSIGNED_SHORT, EDF_HIGH_BYTE_FIRST, 2, 3, 2, 0, 6, BYTES("x;"), pixels, sizeof pixels, file,
+                    sizeof file, &file_length, &position) == EDF_OK);
+    CHECK(file_length == 1024 && position == 99);
+    CHECK(memcmp(file + 512, "\0\3\0\6\0\2\0\5\0\1\0\4", 12) == 0);
+    size_t length = 99;
+    CHECK(edf_write(1, 3, 1, EDF_UNSIGNED_SHORT, EDF_HIGH_BYTE_FIRST, 2, 3, 2, 0, 6, BYTES("x;"), pixels, sizeof pixels, out,
+                    sizeof out, &length, &position) == EDF_BAD_ARGUMENT);
+    CHECK(length == 99 && position == 0);
+}
+
+static void opening(void) {
+    static edf_row table[EDF_MOST_BLOCKS];
+    size_t count = 99, position = 99;
+    CHECK(edf_open(file, file_length, (uint64_t *)table, 7 * EDF_MOST_BLOCKS, &count, &position) == EDF_OK);
+    CHECK(count == 1 && position == 99);
+    CHECK(table[0].start == 0 && table[0].header == 512 && table[0].size == 512 && table[0].kind == EDF_DATA_BLOCK);
+    CHECK(table[0].sequence == 1 && table[0].instance == EDF_PSD && table[0].memory == 1);
+    CHECK(edf_open(file, file_length, (uint64_t *)table, 7 * 255, &count, &position) == EDF_TABLE_TOO_SMALL);
+    CHECK(edf_open(file, file_length - 1, (uint64_t *)table, 7 * EDF_MOST_BLOCKS, &count, &position) == EDF_DATA_PAST_END);
+    CHECK(count == 1 && position == 0);
+}
+
+static void keywords(void) {
+    size_t offset = 99, length = 99, position = 99;
+    int64_t value = 99;
+    CHECK(edf_find(file, file_length, 0, BYTES("t i t l e"), &offset, &length, &position) == EDF_OK);
+    CHECK(length == 3 && memcmp(file + offset, "x\\:", 3) == 0);
+    CHECK(edf_find(file, file_length, 0, BYTES("Subtitle"), &offset, &length, &position) == EDF_NOT_FOUND);
+    CHECK(edf_text(file, file_length, 0, BYTES("Title"), out, EDF_TEXT_CAPACITY, &length, &position) == EDF_OK);
+    CHECK(length == 2 && memcmp(out, "x;", 2) == 0);
+    CHECK(edf_text(file, file_length, 0, BYTES("Title"), out, 1, &length, &position) == EDF_BUFFER_TOO_SMALL);
+    CHECK(edf_whole_number(file, file_length, 0, BYTES("Dim_1"), &value, &position) == EDF_OK && value == 3);
+    CHECK(edf_whole_number(file, file_length, 0, BYTES("Title"), &value, &position) == EDF_BAD_NUMBER && value == 3);
+    CHECK(edf_escape(BYTES("x;"), out, EDF_VALUE_CAPACITY, &length, &position) == EDF_OK);
+    CHECK(length == 5 && memcmp(out, "\"x\\:\"", 5) == 0);
+    CHECK(edf_escape(BYTES("\x80"), out, EDF_VALUE_CAPACITY, &length, &position) == EDF_BAD_ARGUMENT);
+    CHECK(edf_unescape(BYTES(" a\\:b "), out, EDF_TEXT_CAPACITY, &length, &position) == EDF_OK);
+    CHECK(length == 3 && memcmp(out, "a;b", 3) == 0);
+    CHECK(edf_unescape(BYTES(";"), out, EDF_TEXT_CAPACITY, &length, &position) == EDF_BAD_ARGUMENT);
+}
+
+static void arrays(void) {
+    uint8_t datatype = 0, byteorder = 0, compression = 0, n = 0, class_ = 0;
+    size_t dim1 = 0, dim2 = 0, dim3 = 0, length = 0, position = 99;
+    uint32_t configuration = 0, orientation = 0;
+    int64_t offset = 99, signed_ = 99;
+    uint64_t unsigned_ = 99;
+    float float32 = 99;
+    double float64 = 99;
+    CHECK(edf_describe(file, file_length, 0, &datatype, &byteorder, &compression, &n, &dim1, &dim2, &dim3, &configuration,
+                       &orientation, &offset, &position) == EDF_OK);
+    CHECK(datatype == EDF_UNSIGNED_SHORT && byteorder == EDF_HIGH_BYTE_FIRST && compression == EDF_COMPRESSION_NONE);
+    CHECK(n == 2 && dim1 == 3 && dim2 == 2 && dim3 == 1 && configuration == 6 && orientation == 1 && offset == 0);
+    CHECK(edf_describe(file, file_length, 1, &datatype, &byteorder, &compression, &n, &dim1, &dim2, &dim3, &configuration,
+                       &orientation, &offset, &position) == EDF_NOT_FOUND);
+    CHECK(edf_read_array(file, file_length, 0, EDF_LOW_BYTE_FIRST, out, sizeof out, &length, &position) == EDF_OK);
+    CHECK(length == dim1 * dim2 * dim3 * edf_datatype_width(datatype) && memcmp(out, "\1\0\2\0\3\0\4\0\5\0\6\0", 12) == 0);
+    CHECK(edf_read_array(file, file_length, 0, 3, out, sizeof out, &length, &position) == EDF_BAD_ARGUMENT);
+    CHECK(edf_read_pixel(file, file_length, 0, 2, 1, 0, &class_, &unsigned_, &signed_, &float32, &float64, &position) == EDF_OK);
+    CHECK(class_ == EDF_UNSIGNED && unsigned_ == 6 && signed_ == 99 && float32 == 99 && float64 == 99);
+    CHECK(edf_read_pixel(file, file_length, 0, 3, 0, 0, &class_, &unsigned_, &signed_, &float32, &float64, &position) == EDF_INDEX_OUTSIDE);
+}
+
+static void listing(void) {
+    static const char expected[] = "blocks 1\n0 0 512 512 1.Image.Psd UnsignedShort HighByteFirst 3x2 6 1 0\n";
+    static uint8_t list[EDF_LIST_CAPACITY];
+    size_t length = 99, position = 99;
+    CHECK(edf_list(file, file_length, list, sizeof list, &length, &position) == EDF_OK && position == 99);
+    CHECK(length == strlen(expected) && memcmp(list, expected, length) == 0);
+    CHECK(edf_list(file, file_length, list, length - 1, &length, &position) == EDF_BUFFER_TOO_SMALL && position == 0);
+    CHECK(edf_list(file, 0, list, sizeof list, &length, &position) == EDF_OK && length == 12 && memcmp(list, "refused 3 0\n", 12) == 0);
+    CHECK(edf_part(file, file_length, 0, file_length) == file_length && edf_part(file, file_length, 1000, 24) == 24);
+    CHECK(edf_part(file, file_length, 1000, 25) == 0 && edf_part(file, file_length, SIZE_MAX, 2) == 0);
+}
+
+/* Keys without their whitespace, texts, and no text for a value that is too long. */
+static void keyword_list(void) {
+    static uint8_t header[4096];
+    size_t length = 99, position = 99, used = (size_t)sprintf((char *)header, "\r\n{ a b= \"x\\:y\" ;\nC=;long = ");
+    memset(header + used, 'z', 1024);
+    strcpy((char *)header + used + 1024, "; d = = ;  }\n");
+    used = strlen((char *)header);
+    CHECK(edf_keywords(header, used, out, used, &length, &position) == EDF_OK && position == 99);
+    CHECK(length == 21 && memcmp(out, "ab\0x;y\0C\0\0long\0\377\0d\0=\0", 21) == 0);
+    CHECK(edf_keywords(header, used, out, used - 1, &length, &position) == EDF_BUFFER_TOO_SMALL && length == 21 && position == 0);
+    CHECK(edf_keywords((const uint8_t *)"{\n }\n", 6, out, 6, &length, &position) == EDF_OK && length == 0);
+    CHECK(edf_keywords(file, 512, out, 512, &length, &position) == EDF_OK);
+    CHECK(memcmp(out, "EDF_DataBlockID\0001.Image.Psd\0EDF_BinarySize\000512", 46) == 0 && memcmp(out + length - 9, "Title\0x;", 9) == 0);
+}
+
+static void words(void) {
+    for (int code = EDF_OK; code <= EDF_TEXT_TOO_LONG; code++)
+        for (int other = 0; other < code; other++)
+            CHECK(strlen(edf_words((uint8_t)code)) > 5 && strcmp(edf_words((uint8_t)code), edf_words((uint8_t)other)) != 0);
+    CHECK(strcmp(edf_words(EDF_OK), "no error") == 0);
+    CHECK(strcmp(edf_words(EDF_FILE_TOO_LARGE), "file over 1,073,741,824 bytes") == 0);
+    CHECK(strcmp(edf_words(EDF_DATA_PAST_END), "data past the end of the file") == 0);
+    CHECK(strcmp(edf_words(EDF_BUFFER_TOO_SMALL), "buffer too small") == 0);
+    CHECK(strcmp(edf_words(EDF_TEXT_TOO_LONG), "text over 1,023 characters") == 0);
+    CHECK(strcmp(edf_words(26), "unknown code") == 0 && strcmp(edf_words(255), "unknown code") == 0);
+    CHECK(strcmp(edf_field_name(1), "DataType") == 0 && strcmp(edf_field_name(7), "DataValueOffset") == 0);
+    CHECK(strcmp(edf_field_name(0), "") == 0 && strcmp(edf_field_name(8), "") == 0);
+    CHECK(strcmp(edf_datatype_name(EDF_UNSIGNED_SHORT), "UnsignedShort") == 0 && edf_datatype_width(EDF_UNSIGNED_SHORT) == 2);
+    CHECK(strcmp(edf_datatype_name(EDF_FLOAT_IEEE64), "FloatIEEE64") == 0 && edf_datatype_width(EDF_FLOAT_IEEE64) == 8);
+    CHECK(strcmp(edf_datatype_name(11), "") == 0 && edf_datatype_width(0) == 0 && edf_datatype_width(11) == 0);
+    CHECK(strcmp(edf_byteorder_name(EDF_LOW_BYTE_FIRST), "LowByteFirst") == 0 && strcmp(edf_byteorder_name(3), "") == 0);
+}
+
+int main(void) {
+    writing(), opening(), keywords(), arrays(), listing(), keyword_list(), words();
+    printf("%d passed, %d failed\n", passed, wrong);
+    return wrong != 0;
+}

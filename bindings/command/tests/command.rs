@@ -1,0 +1,344 @@
+//! The command as a user runs it: arguments, what it prints, its exit status, and the files that it makes.
+
+use std::ffi::{OsStr, OsString};
+use std::fs;
+use std::io::{Read, Write};
+use std::os::unix::ffi::OsStringExt;
+use std::path::{Path, PathBuf};
+use std::process::{Command, Output, Stdio};
+
+fn fixture(name: &str) -> PathBuf {
+    Path::new(env!("CARGO_MANIFEST_DIR")).join("../../tests/fixtures").join(name)
+}
+
+fn fixtures() -> Vec<PathBuf> {
+    let mut paths: Vec<PathBuf> = fs::read_dir(fixture("")).unwrap().map(|entry| entry.unwrap().path()).collect();
+    paths.retain(|path| path.extension() == Some(OsStr::new("edf")));
+    paths.sort();
+    assert!(paths.len() > 30);
+    paths
+}
+
+/// A folder of a test's own, empty at first.
+fn folder(name: &str) -> PathBuf {
+    let folder = Path::new(env!("CARGO_TARGET_TMPDIR")).join(name);
+    let _ = fs::remove_dir_all(&folder);
+    fs::create_dir_all(&folder).unwrap();
+    folder
+}
+
+struct Ended {
+    status: i32,
+    out: String,
+    err: String,
+}
+
+fn ended(output: Output) -> Ended {
+    let text = |bytes| String::from_utf8(bytes).expect("what is printed is UTF-8");
+    Ended { status: output.status.code().expect("no signal"), out: text(output.stdout), err: text(output.stderr) }
+}
+
+fn edf<S: AsRef<OsStr>>(words: &[S]) -> Ended {
+    ended(Command::new(env!("CARGO_BIN_EXE_edf")).args(words).stdin(Stdio::null()).output().unwrap())
+}
+
+/// The words of a command line, some of them paths.
+macro_rules! words {
+    ($($word:expr),*) => { &[$(OsString::from($word)),*] };
+}
+
+#[test]
+fn list_is_the_lister() {
+    for path in fixtures() {
+        let expected = fs::read_to_string(path.with_extension("list")).unwrap();
+        let answer = edf(words!["list", &path]);
+        assert_eq!(answer.out, expected, "{}", path.display());
+        assert_eq!(answer.status, i32::from(expected.contains("refused")), "{}", path.display());
+        assert_eq!(answer.err, "");
+    }
+}
+
+#[test]
+fn list_of_several_has_headings() {
+    let (good, bad) = (fixture("raster_7.edf"), fixture("past_end.edf"));
+    let answer = edf(words!["list", &good, "no such file", &bad]);
+    let line = "blocks 1\n0 0 512 512 1.Image.Psd UnsignedShort HighByteFirst 3x2 7 1 0\n";
+    assert_eq!(answer.out, format!("{}:\n{line}{}:\nrefused 12 0\n", good.display(), bad.display()));
+    assert_eq!(answer.err, "edf: no such file: No such file or directory (os error 2)\n");
+    assert_eq!(answer.status, 3);
+}
+
+#[test]
+fn standard_input() {
+    let mut child = Command::new(env!("CARGO_BIN_EXE_edf"))
+        .args(["list", "-"])
+        .stdin(Stdio::piped())
+        .stdout(Stdio::piped())
+        .spawn()
+        .unwrap();
+    child.stdin.take().unwrap().write_all(&fs::read(fixture("k1_raster_6.edf")).unwrap()).unwrap();
+    let answer = ended(child.wait_with_output().unwrap());
+    assert_eq!(answer.out, "blocks 1\n0 0 512 512 - UnsignedShort HighByteFirst 3x2 6 1 0\n");
+}
+
+#[test]
+fn header_and_get() {
+    let path = fixture("title_escapes.edf");
+    let answer = edf(words!["header", &path, "0"]);
+    assert!(answer.out.starts_with("EDF_DataBlockID = 1.Image.Psd\nEDF_BinarySize = 512\nByteOrder = HighByteFirst\n"));
+    assert!(answer.out.ends_with("\nTitle = a;b {c} d\\e\\nf\n"), "{}", answer.out);
+    assert_eq!(edf(words!["get", &path, "0", "title"]).out, "a;b {c} d\\e\nf\n");
+    assert_eq!(edf(words!["get", &path, "0", " DIM_ 1"]).out, "3\n");
+
+    let general = fixture("general_defaults.edf");
+    let answer = edf(words!["header", &general]);
+    let headings: Vec<&str> = answer.out.lines().filter(|line| line.starts_with("block ")).collect();
+    assert_eq!(headings, ["block 0: general", "block 1: 1.Image.Psd", "block 2: 2.Image.Psd"]);
+    assert_eq!(edf(words!["get", &general, "2", "DataType"]).out, "UnsignedShort\n");
+
+    let missing = edf(words!["get", &path, "0", "Subtitle"]);
+    assert_eq!((missing.status, missing.out.as_str()), (1, ""));
+    assert!(missing.err.contains("title_escapes.edf: error 16 at 0: no such block or keyword"), "{}", missing.err);
+    assert_eq!(edf(words!["header", &path, "1"]).status, 1);
+    assert_eq!(edf(words!["get", &path, "18446744073709551615", "Title"]).status, 1);
+    let key = OsString::from_vec(vec![b'T', 0xff]);
+    assert_eq!(edf(&[OsString::from("get"), path.into(), "0".into(), key]).status, 1);
+}
+
+#[test]
+fn values_over_the_limit_of_text_are_shown_as_they_stand() {
+    let body = format!("{{\nLong = {} ;\n", "x".repeat(1500));
+    let file = folder("long").join("long.edf");
+    fs::write(&file, format!("{body:<2046}}}\n")).unwrap();
+    assert_eq!(edf(words!["header", &file, "0"]).out, format!("Long = {}\n", "x".repeat(1500)));
+    assert!(edf(words!["get", &file, "0", "Long"]).err.contains("error 25 at 0: text over 1,023 characters"));
+}
+
+#[test]
+fn export_raw_npy_pgm() {
+    let (folder, path) = (folder("export"), fixture("raster_7.edf"));
+    let export = |name: &str| {
+        let out = folder.join(name);
+        let answer = edf(words!["export", &path, "0", &out]);
+        assert_eq!((answer.status, answer.err.as_str()), (0, ""));
+        assert!(answer.out.starts_with(out.to_str().unwrap()), "{}", answer.out);
+        fs::read(out).unwrap()
+    };
+    assert_eq!(export("a.raw"), [1, 0, 2, 0, 3, 0, 4, 0, 5, 0, 6, 0]);
+    assert_eq!(export("a.PGM"), b"P5\n3 2\n65535\n\0\x01\0\x02\0\x03\0\x04\0\x05\0\x06");
+    let npy = export("a.npy");
+    assert_eq!(npy[..10], *b"\x93NUMPY\x01\x00\x76\x00");
+    let fields = "{'descr': '<u2', 'fortran_order': False, 'shape': (2, 3), }";
+    assert_eq!(npy[10..128], *format!("{fields:<117}\n").as_bytes());
+    assert_eq!(npy[128..], [1, 0, 2, 0, 3, 0, 4, 0, 5, 0, 6, 0]);
+}
+
+#[test]
+fn export_of_other_shapes() {
+    let folder = folder("shapes");
+    let cube = fixture("silx_3d_uint16.edf");
+    let out = folder.join("cube.npy");
+    assert_eq!(edf(words!["export", &cube, "0", &out]).status, 0);
+    assert!(String::from_utf8_lossy(&fs::read(&out).unwrap()[..128]).contains("'shape': (2, 3, 4), }"));
+    let answer = edf(words!["export", &cube, "0", folder.join("cube.pgm")]);
+    assert_eq!((answer.status, answer.err.contains("two dimensions, not three")), (1, true));
+    let floats = fixture("type_absent.edf");
+    let answer = edf(words!["export", &floats, "0", folder.join("floats.pgm")]);
+    assert_eq!((answer.status, answer.err.contains("not FloatIEEE32")), (1, true));
+    let row = edf::write(&edf::Frame::image(edf::DataType::SignedByte, &[3]), "", &[1, 2, 255]).unwrap();
+    let file = folder.join("row.edf");
+    fs::write(&file, row).unwrap();
+    assert_eq!(edf(words!["export", &file, "0", folder.join("row.npy")]).status, 0);
+    let npy = fs::read(folder.join("row.npy")).unwrap();
+    assert!(String::from_utf8_lossy(&npy[..128]).contains("{'descr': '|i1', 'fortran_order': False, 'shape': (3,), }"));
+    assert_eq!(npy[128..], [1, 2, 255]);
+}
+
+#[test]
+fn export_that_cannot_be() {
+    let (folder, path) = (folder("refused"), fixture("raster_7.edf"));
+    assert_eq!(edf(words!["export", &path, "0", folder.join("a.tif")]).status, 2);
+    assert_eq!(edf(words!["export", &path, "0", folder.join("none/a.raw")]).status, 3);
+    assert_eq!(edf(words!["export", &path, "1", folder.join("a.raw")]).status, 1);
+    assert!(!folder.join("a.raw").exists());
+    let own = folder.join("own.raw");
+    fs::copy(&path, &own).unwrap();
+    assert_eq!(edf(words!["export", &own, "0", &own]).status, 2);
+    assert_eq!(fs::read(&own).unwrap(), fs::read(&path).unwrap());
+    std::os::unix::fs::symlink("/dev/full", folder.join("full.raw")).unwrap();
+    let answer = edf(words!["export", &path, "0", folder.join("full.raw")]);
+    assert_eq!((answer.status, answer.err.contains("No space left")), (3, true));
+}
+
+#[test]
+fn check_tells_what_is_wrong_and_where() {
+    let good = edf(words!["check", fixture("raster_7.edf"), fixture("fabio_multi_10.edf")]);
+    assert_eq!(good.status, 0);
+    assert!(good.out.contains("raster_7.edf: ok, 1 block\n") && good.out.contains("fabio_multi_10.edf: ok, 10 blocks\n"));
+
+    let answer = edf(words!["check", fixture("nul_in_header.edf")]);
+    assert_eq!(answer.status, 1);
+    let lines: Vec<&str> = answer.out.lines().collect();
+    assert!(lines[0].ends_with("nul_in_header.edf: error 4 at 152: a byte that can't stand in a header: 0, above 127, or `{`"));
+    assert_eq!(lines[2], "    00000090  69 74 6c 65 20 3d 20 61 00 62 00 20 3b 0d 0a 20  itle = a.b. ;.. ");
+    assert_eq!(lines[3].find("^^"), Some(4 + 10 + 3 * 8));
+
+    let answer = edf(words!["check", fixture("type_unknown.edf")]);
+    assert!(answer.out.contains("type_unknown.edf: block 0: error 17 at 1: unknown word in DataType\n"));
+}
+
+#[test]
+fn check_of_every_fixture() {
+    for path in fixtures() {
+        let listing = fs::read_to_string(path.with_extension("list")).unwrap();
+        let answer = edf(words!["check", &path]);
+        assert_eq!(answer.status, i32::from(listing.contains("refused")), "{}", path.display());
+        if let Some((_, refusal)) = listing.split_once("refused ") {
+            let (code, position) = refusal.trim().split_once(' ').unwrap();
+            assert!(answer.out.contains(&format!(": error {code} at {position}: ")), "{}: {}", path.display(), answer.out);
+            assert!(answer.out.contains("^^"), "{}", path.display());
+        }
+    }
+}
+
+/// The mark of a bad field stands under its value.
+#[test]
+fn check_points_at_the_field() {
+    let folder = folder("fields");
+    for (statement, code, position) in [
+        ("Dim_1 = 2 ; Dim_2 = *0 ;", 18, 4),
+        ("Dim_1 = 2 ; DataRasterConfiguration = *3 ;", 18, 5),
+        ("Dim_1 = 2 ; RasterOrientation = *x ;", 18, 6),
+        ("Dim_1 = 2 ; DataValueOffset = *1.5 ;", 18, 7),
+        ("Dim_1 = 2 ; DataType = FloatIEEE32 ; DataValueOffset = *1 ;", 21, 0),
+        ("Dim_1 = 2 ; Dim_2 = 2 ; Dim_3 = 2 ; Dim_4 = *2 ;", 19, 0),
+        ("Dim_1 = 2 ; Compression = *Gzip ;", 17, 3),
+        ("DataType = UnsignedByte ; Dim_1 = 9 ; Size = *8 ;", 20, 0),
+    ] {
+        let size = if statement.contains("Size") { "" } else { "Size = 8 ; " };
+        let body = format!("{{ {size}{statement}");
+        let mark = body.find('*').unwrap();
+        let file = folder.join("field.edf");
+        fs::write(&file, format!("{:<510}}}\n12345678", body.replace('*', ""))).unwrap();
+        let answer = edf(words!["check", &file]);
+        assert!(answer.out.contains(&format!("error {code} at {position}: ")), "{statement}: {}", answer.out);
+        let lines: Vec<&str> = answer.out.lines().collect();
+        let marked = lines.iter().position(|line| line.trim() == "^^").expect(statement);
+        let row = usize::from_str_radix(&lines[marked - 1][4..12], 16).unwrap();
+        assert_eq!(row + (lines[marked].find('^').unwrap() - 14) / 3, mark, "{statement}");
+    }
+}
+
+/// No damage makes the command do anything but answer; `check` agrees with `list`.
+#[test]
+fn damaged_files() {
+    let folder = folder("damaged");
+    let whole = fs::read(fixture("general_defaults.edf")).unwrap();
+    let mut cases: Vec<Vec<u8>> = (0..whole.len()).step_by(171).map(|length| whole[..length].to_vec()).collect();
+    for byte in [0, b'{', b'}', b';', b'=', 200] {
+        for at in (0..600).step_by(41) {
+            let mut damaged = whole.clone();
+            damaged[at] = byte;
+            cases.push(damaged);
+        }
+    }
+    for (number, bytes) in cases.iter().enumerate() {
+        let file = folder.join(format!("{number}.edf"));
+        fs::write(&file, bytes).unwrap();
+        let listed = edf(words!["list", &file]);
+        let checked = edf(words!["check", &file]);
+        assert!(listed.status <= 1 && listed.status == checked.status, "{number}: {} {}", listed.out, checked.out);
+        assert_eq!((listed.err.as_str(), checked.err.as_str()), ("", ""));
+        assert!(edf(words!["header", &file]).status <= 1);
+    }
+}
+
+#[test]
+fn unreadable_paths() {
+    for path in [fixture("no_such_file.edf"), fixture(""), fixture("raster_7.edf").join("inside")] {
+        for name in ["list", "check", "header"] {
+            let answer = edf(words![name, &path]);
+            assert_eq!((answer.status, answer.out.as_str()), (3, ""), "{name} {}", path.display());
+            assert!(answer.err.starts_with("edf: ") && answer.err.lines().count() == 1, "{}", answer.err);
+        }
+    }
+    let empty = folder("empty").join("empty.edf");
+    fs::write(&empty, "").unwrap();
+    assert_eq!(edf(words!["list", &empty]).out, "refused 3 0\n");
+    assert!(edf(words!["check", &empty]).out.ends_with("the file ends here, after 0 bytes\n"));
+}
+
+#[test]
+fn file_names_of_any_bytes() {
+    let file = folder("names").join(OsString::from_vec(b"\xff name.edf".to_vec()));
+    fs::copy(fixture("raster_7.edf"), &file).unwrap();
+    assert_eq!(edf(words!["check", &file]).status, 0);
+}
+
+#[test]
+fn bad_arguments() {
+    for line in ["", "lists", "list", "get a 0", "get a b c", "header a 0 0", "export a 0", "--lost", "list --all a"] {
+        let words: Vec<&str> = line.split_whitespace().collect();
+        let answer = edf(&words);
+        assert_eq!((answer.status, answer.out.as_str()), (2, ""), "{line}");
+        assert!(answer.err.starts_with("edf: ") && answer.err.ends_with("\nTry: edf --help\n"), "{}", answer.err);
+    }
+}
+
+#[test]
+fn help_and_version() {
+    let help = edf(&["--help"]);
+    assert_eq!((help.status, help.err.as_str()), (0, ""));
+    for word in ["list", "header", "get", "export", "check", "Exit status"] {
+        assert!(help.out.contains(word));
+    }
+    assert_eq!(edf(&["check", "-h"]).out, help.out);
+    assert_eq!(edf(&["--version"]).out, concat!("edf ", env!("CARGO_PKG_VERSION"), "\n"));
+}
+
+#[test]
+fn a_reader_who_goes() {
+    let path = fixture("fabio_multi_10.edf");
+    let files = std::iter::repeat_n(&path, 500);
+    let mut child = Command::new(env!("CARGO_BIN_EXE_edf"))
+        .arg("list")
+        .args(files)
+        .stdout(Stdio::piped())
+        .stderr(Stdio::piped())
+        .spawn()
+        .unwrap();
+    let mut start = [0; 100];
+    child.stdout.take().unwrap().read_exact(&mut start).unwrap();
+    let answer = ended(child.wait_with_output().unwrap());
+    assert_eq!((answer.status, answer.err.as_str()), (141, ""));
+}
+
+#[test]
+fn a_full_disk() {
+    let full = fs::OpenOptions::new().write(true).open("/dev/full").unwrap();
+    let command = Command::new(env!("CARGO_BIN_EXE_edf")).arg("list").arg(fixture("raster_7.edf")).stdout(full).output().unwrap();
+    let answer = ended(command);
+    assert_eq!((answer.status, answer.err.contains("standard output: No space left")), (3, true));
+}
+
+/// Files of the greatest length and of one byte more; their data is a hole.
+#[test]
+fn the_limit_of_a_gibibyte() {
+    let folder = folder("large");
+    let most: u64 = 1 << 30;
+    let make = |name: &str, length: u64| {
+        let path = folder.join(name);
+        let body = format!("{{\nDataType = UnsignedShort ;\nDim_1 = 1048576 ;\nDim_2 = 511 ;\nSize = {} ;\n", length - 512);
+        let mut file = fs::File::create(&path).unwrap();
+        file.write_all(format!("{body:<510}}}\n").as_bytes()).unwrap();
+        file.set_len(length).unwrap();
+        path
+    };
+    let greatest = make("greatest.edf", most);
+    let line = "0 0 512 1073741312 - UnsignedShort HighByteFirst 1048576x511 1 1 0";
+    assert_eq!(edf(words!["list", &greatest]).out, format!("blocks 1\n{line}\n"));
+    let over = make("over.edf", most + 1);
+    assert_eq!(edf(words!["list", &over]).out, "refused 1 0\n");
+    assert!(edf(words!["check", &over]).out.ends_with("over.edf: error 1 at 0: file over 1,073,741,824 bytes\n"));
+    fs::remove_dir_all(folder).unwrap();
+}

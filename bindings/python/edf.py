@@ -1,0 +1,513 @@
+"""Files of the ESRF Data Format, through the proved library (libedf.so, which `bash bindings/build` makes).
+
+    import edf
+
+    with edf.open("image.edf") as file:
+        for block in file.blocks:
+            print(block.number, block.identity)
+        print(file.header(0)["Title"])      # header(n): a mapping from keys to text
+        image = file.array(0)               # a numpy array where numpy is installed, else bytes
+        print(file.pixel(0, 2, 1))          # index 1 is 2, index 2 is 1
+
+    data = edf.write(image, title="a copy") # the bytes of a file of one block
+
+Errors of the library are EdfError, with `code`, `position` and `words`; a file that cannot be read is OSError.
+
+The shared object is looked for in the environment variable EDF_LIBRARY, beside this file, in ../../target/lib, and where the system
+looks. What of this is proved, and what is not, is said in docs/BINDINGS.md.
+"""
+
+import collections.abc
+import ctypes
+import enum
+import io
+import mmap
+import operator
+import os
+import struct
+import sys
+from ctypes import POINTER, byref, c_char, c_char_p, c_double, c_float, c_int64, c_size_t, c_uint8, c_uint32, c_uint64, c_void_p
+from typing import NamedTuple, Optional, Tuple
+
+MOST_BLOCKS = 256
+MOST_BYTES = 1 << 30
+_TEXT_CAPACITY = 1023
+_VALUE_CAPACITY = 2048
+_LIST_CAPACITY = 75292
+_HEADER_CAPACITY = 4096  # more than the header and the filling of a written file
+
+# ---- The library
+
+
+class _Fields(ctypes.Structure):
+    """What edf_describe sets, in its order."""
+
+    _fields_ = [("datatype", c_uint8), ("byteorder", c_uint8), ("compression", c_uint8), ("n", c_uint8), ("dim1", c_size_t),
+                ("dim2", c_size_t), ("dim3", c_size_t), ("configuration", c_uint32), ("orientation", c_uint32), ("offset", c_int64)]
+
+
+_FIELD_OFFSETS = [getattr(_Fields, name).offset for name, _ in _Fields._fields_]
+
+
+def _load():
+    here = os.path.dirname(os.path.abspath(__file__))
+    named = os.environ.get("EDF_LIBRARY")
+    beside = [os.path.join(here, "libedf.so"), os.path.join(here, "..", "..", "target", "lib", "libedf.so")]
+    paths = [named] if named else [path for path in beside if os.path.exists(path)] + ["libedf.so"]
+    library = ctypes.CDLL(paths[0])
+    bytes_in, number_out = [c_void_p, c_size_t], POINTER(c_size_t)
+    keyword = bytes_in + [c_size_t] + bytes_in
+    buffer_out = [c_void_p, c_size_t, number_out, number_out]
+    calls = {
+        "edf_open": bytes_in + buffer_out,
+        "edf_list": bytes_in + buffer_out,
+        "edf_find": keyword + [number_out] * 3,
+        "edf_text": keyword + buffer_out,
+        "edf_whole_number": keyword + [POINTER(c_int64), number_out],
+        "edf_keywords": bytes_in + buffer_out,
+        "edf_escape": bytes_in + buffer_out,
+        "edf_unescape": bytes_in + buffer_out,
+        "edf_describe": bytes_in + [c_size_t] + [c_void_p] * len(_Fields._fields_) + [number_out],
+        "edf_read_array": bytes_in + [c_size_t, c_uint8] + buffer_out,
+        "edf_read_pixel": bytes_in + [c_size_t] * 4
+        + [POINTER(c_uint8), POINTER(c_uint64), POINTER(c_int64), POINTER(c_float), POINTER(c_double), number_out],
+        "edf_write": [c_int64, c_uint8, c_int64, c_uint8, c_uint8, c_uint8, c_size_t, c_size_t, c_size_t, c_uint32]
+        + bytes_in + bytes_in + buffer_out,
+    }
+    for name, arguments in calls.items():
+        function = getattr(library, name)
+        function.argtypes, function.restype = arguments, c_uint8
+    for name, argument in (("edf_words", c_uint8), ("edf_field_name", c_size_t), ("edf_datatype_name", c_uint8),
+                           ("edf_byteorder_name", c_uint8)):
+        function = getattr(library, name)
+        function.argtypes, function.restype = [argument], c_char_p
+    library.edf_part.argtypes, library.edf_part.restype = bytes_in + [c_size_t, c_size_t], c_size_t
+    library.edf_datatype_width.argtypes, library.edf_datatype_width.restype = [c_uint8], c_size_t
+    return library
+
+
+_library = _load()
+
+# ---- Errors and words
+
+
+class Code(enum.IntEnum):
+    """The codes of errors; EdfError.words says what they mean."""
+
+    FILE_TOO_LARGE = 1
+    TABLE_TOO_SMALL = 2
+    NO_HEADER = 3
+    BAD_HEADER_BYTE = 4
+    NO_HEADER_END = 5
+    BAD_STATEMENT = 6
+    TOO_LONG = 7
+    KEY_REPEATED = 8
+    KEY_RULE_BROKEN = 9
+    DATA_ELSEWHERE = 10
+    BAD_HEADER_LENGTH = 11
+    DATA_PAST_END = 12
+    IDENTITY_REPEATED = 13
+    TOO_MANY_BLOCKS = 14
+    BLOCK_COUNT_WRONG = 15
+    NOT_FOUND = 16
+    UNKNOWN_WORD = 17
+    BAD_NUMBER = 18
+    TOO_MANY_DIMENSIONS = 19
+    DATA_TOO_SHORT = 20
+    OFFSET_ON_FLOATS = 21
+    BUFFER_TOO_SMALL = 22
+    INDEX_OUTSIDE = 23
+    BAD_ARGUMENT = 24
+    TEXT_TOO_LONG = 25
+
+
+class EdfError(ValueError):
+    """An error of the library. `position` is an offset in the file for codes 3 to 14, the number of the field for 17 and 18 (0 for
+    a keyword read as a whole number), else 0. `field` is the name of that field, or None."""
+
+    def __init__(self, code, position):
+        self.code = Code(code)
+        self.position = position
+        self.words = _library.edf_words(code).decode("ascii")
+        in_field = code in (Code.UNKNOWN_WORD, Code.BAD_NUMBER) and position > 0
+        self.field = _library.edf_field_name(position).decode("ascii") if in_field else None
+        where = " in " + self.field if in_field else ""
+        super().__init__("error %d at %d: %s%s" % (code, position, self.words, where))
+
+    def __reduce__(self):
+        return EdfError, (int(self.code), self.position)
+
+
+_DATA_TYPES = [_library.edf_datatype_name(n).decode("ascii") for n in range(11)]
+_BYTE_ORDERS = [_library.edf_byteorder_name(n).decode("ascii") for n in range(3)]
+_WIDTHS = [_library.edf_datatype_width(n) for n in range(11)]
+_KINDS = " uiuiuifuif"  # numpy's letter for each data type
+_INSTANCES = ["", "Psd", "Error"]
+_NATIVE = _BYTE_ORDERS[1 if sys.byteorder == "big" else 2]
+
+
+def _number_of(words, word, what):
+    """The library's number for a word."""
+    if word in words[1:]:
+        return words.index(word)
+    raise ValueError("%s is %r: one of %s" % (what, word, ", ".join(words[1:])))
+
+
+class Identity(NamedTuple):
+    """Which data block this is, in files that start with an EDF_ key."""
+
+    sequence: int
+    instance: str
+    memory: int
+
+    def __str__(self):
+        return "%d.Image.%s" % self[:2] + ("" if self.memory == 1 else ".%d" % self.memory)
+
+
+class Block(NamedTuple):
+    """A block: where it stands in the file. `kind` is "general" or "data"; `identity` is None for a general block, and in files
+    that do not start with an EDF_ key."""
+
+    number: int
+    start: int
+    header_length: int
+    data_length: int
+    kind: str
+    identity: Optional[Identity]
+
+
+class Description(NamedTuple):
+    """How an array is stored. `dims` are one to three, the first runs fastest: a numpy array has them in reverse."""
+
+    data_type: str
+    byte_order: str
+    compression: str
+    dims: Tuple[int, ...]
+    configuration: int
+    orientation: int
+    offset: int
+
+
+# ---- What calls get
+
+
+def _whole(value, lowest, highest, code):
+    """A whole number within limits, else an error: ctypes would cut it to its low bits."""
+    value = operator.index(value)
+    if not lowest <= value <= highest:
+        raise EdfError(code, 0)
+    return value
+
+
+def _lent(data):
+    """Bytes that calls read: their address, their number, and what keeps them there. They are copied where they are read-only (but
+    for bytes), scattered or none."""
+    view = memoryview(data)
+    if not isinstance(data, bytes) and (view.readonly or not view.c_contiguous or view.nbytes == 0):
+        data = view.tobytes()
+    if isinstance(data, bytes):
+        return ctypes.cast(c_char_p(data), c_void_p).value, len(data), data
+    owner = c_char.from_buffer(data)
+    return ctypes.addressof(owner), view.nbytes, owner
+
+
+def _into(capacity, call, *arguments):
+    """The bytes that a call writes into a buffer of this size."""
+    out, length, position = ctypes.create_string_buffer(max(capacity, 1)), c_size_t(), c_size_t()
+    code = call(*arguments, out, capacity, byref(length), byref(position))
+    if code:
+        raise EdfError(code, position.value)
+    return ctypes.string_at(out, length.value)
+
+
+def _encoded(text):
+    return text if isinstance(text, bytes) else text.encode("utf-8")
+
+
+def _numpy():
+    """numpy, or None where it is not installed."""
+    global _numpy_module
+    if _numpy_module is False:
+        try:
+            import numpy as _numpy_module
+        except ImportError:
+            _numpy_module = None
+    return _numpy_module
+
+
+_numpy_module = False
+
+# ---- Text
+
+
+def escape(text):
+    """Text in value form: in quotes, with escapes."""
+    text = _encoded(text)
+    return _into(_VALUE_CAPACITY, _library.edf_escape, text, len(text)).decode("ascii")
+
+
+def unescape(value):
+    """The text of what stands between `=` and `;` of a statement."""
+    value = _encoded(value)
+    return _into(_TEXT_CAPACITY, _library.edf_unescape, value, len(value)).decode("ascii")
+
+
+# ---- Headers
+
+_WHITESPACE = b" \t\n\r\v\f"
+_NO_TEXT = "\xff"  # in place of a text that is too long
+
+
+def _keywords(address, length):
+    """Key and text of each statement of a header that the library accepted."""
+    listed = _into(length, _library.edf_keywords, address, length).decode("latin-1").split("\0")
+    return dict(zip(listed[0:-1:2], listed[1::2]))
+
+
+def _folded(key):
+    """A sought key as keys are compared."""
+    return _encoded(key).translate(None, _WHITESPACE).lower().decode("utf-8", "replace")
+
+
+class Header(collections.abc.Mapping):
+    """The keywords of a block as text. Keys are compared without whitespace and without regard to case. Those of the block's own
+    header come first, then those of the general header that hold for the block."""
+
+    def __init__(self, own, general):
+        self._texts, self._written = own, None  # text by key; key by folded key, made when it is needed
+        if general:
+            taken = {key.lower() for key in own}
+            own.update((key, text) for key, text in general.items() if key.lower() not in taken and not key.lower().startswith("edf_"))
+
+    def _found(self, key):
+        """The key as it is written in the header, or None."""
+        if key in self._texts:
+            return key
+        if not isinstance(key, (str, bytes)):
+            return None
+        if self._written is None:
+            self._written = {written.lower(): written for written in self._texts}
+        return self._written.get(_folded(key))
+
+    def __getitem__(self, key):
+        found = self._found(key)
+        if found is None:
+            raise KeyError(key)
+        text = self._texts[found]
+        if text == _NO_TEXT:
+            raise EdfError(Code.TEXT_TOO_LONG, 0)
+        return text
+
+    def __contains__(self, key):
+        return self._found(key) is not None
+
+    def __iter__(self):
+        return iter(self._texts)
+
+    def __len__(self):
+        return len(self._texts)
+
+    def __repr__(self):
+        return "Header(%r)" % self._texts
+
+
+# ---- Files
+
+
+def _opened(address, length):
+    """The rows of the table of a file's blocks."""
+    rows, count, position = (c_uint64 * (7 * MOST_BLOCKS))(), c_size_t(), c_size_t()
+    code = _library.edf_open(address, length, rows, len(rows), byref(count), byref(position))
+    if code:
+        raise EdfError(code, position.value)
+    return list(struct.iter_unpack("=4QqQq", memoryview(rows).cast("B")[: 56 * count.value]))
+
+
+def _block(number, start, header_length, data_length, kind, sequence, instance, memory):
+    identity = Identity(sequence, _INSTANCES[instance], memory) if instance else None
+    return Block(number, start, header_length, data_length, "data" if kind else "general", identity)
+
+
+class File:
+    """A file, opened: its bytes and its blocks. The bytes must not change while a call runs; they are not copied where they are
+    bytes or a writable buffer."""
+
+    def __init__(self, data):
+        self._bytes = _lent(data)
+        address, length, _owner = self._bytes
+        self._rows = _opened(address, length)
+        self.blocks = tuple(_block(number, *row) for number, row in enumerate(self._rows))
+        self._parts = {}
+
+    def close(self):
+        """Lets the file's bytes go."""
+        self._bytes = None
+
+    def __enter__(self):
+        return self
+
+    def __exit__(self, *_):
+        self.close()
+
+    def __len__(self):
+        return len(self.blocks)
+
+    def _call(self, block, call, *arguments):
+        """A call on a block, with as little of the file as answers the same; where that starts."""
+        number = _whole(block, 0, len(self.blocks) - 1, Code.NOT_FOUND)
+        (address, length, _owner), position = self._open_bytes(), c_size_t()
+        start, length, number = self._parts.get(number) or self._part(address, length, number)
+        code = call(address + start, length, number, *arguments, byref(position))
+        if code:
+            raise EdfError(code, position.value)
+        return start
+
+    def _part(self, address, length, number):
+        """Start and length of the part of the file in which calls on a block answer as in the whole file, and the block's number
+        there. A call judges the whole file that it gets, so that with the whole file each would cost the time of all headers.
+        A block of a file without a general block is looked at by itself, if the library opens its bytes alone as one block with
+        the same lengths, kind and identity: its answers then hang on the same header and the same data."""
+        part, row = (0, length, number), self._rows[number]
+        start, size = row[0], row[1] + row[2]
+        if len(self.blocks) > 1 and self.blocks[0].kind == "data":
+            try:
+                if _opened(address + start, size) == [(0,) + row[1:]]:
+                    part = start, size, 0
+            except EdfError:
+                pass
+        self._parts[number] = part
+        return part
+
+    def _open_bytes(self):
+        if self._bytes is None:
+            raise ValueError("the file is closed")
+        return self._bytes
+
+    def header(self, block):
+        """The keywords of a block, a mapping from keys to text."""
+        number = _whole(block, 0, len(self.blocks) - 1, Code.NOT_FOUND)
+        general = self._keywords(0) if self.blocks[0].kind == "general" and number != 0 else {}
+        return Header(self._keywords(number), general)
+
+    def _keywords(self, number):
+        """The keywords of a block's own header."""
+        (address, _length, _owner), block = self._open_bytes(), self.blocks[number]
+        return _keywords(address + block.start, block.header_length)
+
+    def part(self, offset, length):
+        """The bytes at a span of the file, as `find` gives it; none where it does not lie inside."""
+        address, size, _owner = self._open_bytes()
+        if min(offset, length) < 0 or max(offset, length) > size:
+            return b""  # no span of a file, and no number for ctypes, which would cut it
+        return ctypes.string_at(address + offset, _library.edf_part(address, size, offset, length))
+
+    def find(self, block, key):
+        """Offset and length of the value of a keyword in the file."""
+        key, offset, length = _encoded(key), c_size_t(), c_size_t()
+        start = self._call(block, _library.edf_find, key, len(key), byref(offset), byref(length))
+        return start + offset.value, length.value
+
+    def text(self, block, key):
+        """The value of a keyword as text."""
+        key, out, length = _encoded(key), ctypes.create_string_buffer(_TEXT_CAPACITY), c_size_t()
+        self._call(block, _library.edf_text, key, len(key), out, _TEXT_CAPACITY, byref(length))
+        return ctypes.string_at(out, length.value).decode("ascii")
+
+    def whole_number(self, block, key):
+        """The value of a keyword as a whole number."""
+        key, value = _encoded(key), c_int64()
+        self._call(block, _library.edf_whole_number, key, len(key), byref(value))
+        return value.value
+
+    def describe(self, block):
+        """The description of a block's array."""
+        return self._described(block)[1]
+
+    def _described(self, block):
+        """The number of the data type, and the description."""
+        f = _Fields()
+        address = ctypes.addressof(f)
+        self._call(block, _library.edf_describe, *[address + offset for offset in _FIELD_OFFSETS])
+        words = _DATA_TYPES[f.datatype], _BYTE_ORDERS[f.byteorder], "None"
+        return f.datatype, Description(*words, (f.dim1, f.dim2, f.dim3)[: f.n], f.configuration, f.orientation, f.offset)
+
+    def array(self, block):
+        """The array of a block, in raster configuration 1 and with its value offset added: a numpy array of this machine's byte
+        order, shape (.., Dim_2, Dim_1); where numpy is not installed, bytes of this machine's byte order."""
+        datatype, description = self._described(block)
+        width, count = _WIDTHS[datatype], 1
+        for dim in description.dims:
+            count *= dim
+        numpy = _numpy()
+        if numpy is None:
+            out = bytearray(max(count * width, 1))
+            self.read_into(block, out)
+            return bytes(out[: count * width])
+        out = numpy.empty(description.dims[::-1], "=%s%d" % (_KINDS[datatype], width))
+        self._read(block, out.__array_interface__["data"][0], out.nbytes, _NATIVE)
+        return out
+
+    def read_into(self, block, out, byte_order=_NATIVE):
+        """The array of a block at the front of a writable buffer, as a bytearray or a contiguous numpy array; the answer is the
+        number of bytes."""
+        owner = c_char.from_buffer(out)
+        return self._read(block, ctypes.addressof(owner), memoryview(out).nbytes, byte_order)
+
+    def _read(self, block, address, capacity, byte_order):
+        order, length = _number_of(_BYTE_ORDERS, byte_order, "byte_order"), c_size_t()
+        self._call(block, _library.edf_read_array, order, address, capacity, byref(length))
+        return length.value
+
+    def pixel(self, block, i1, i2=0, i3=0):
+        """One pixel. Indices count from 0; index 1 runs fastest."""
+        index = [_whole(i, 0, MOST_BYTES, Code.INDEX_OUTSIDE) for i in (i1, i2, i3)]
+        class_, numbers = c_uint8(), (c_uint64(), c_int64(), c_float(), c_double())
+        self._call(block, _library.edf_read_pixel, *index, byref(class_), *map(byref, numbers))
+        return numbers[class_.value - 1].value
+
+
+def open(path):
+    """Opens a file by its path. It is mapped, so that only what is asked for is read; no other program may change it meanwhile. A
+    file that may change is read instead: edf.File(pathlib.Path(path).read_bytes())."""
+    with io.open(path, "rb", buffering=0) as stream:
+        if os.fstat(stream.fileno()).st_size == 0:  # nothing to map: an empty file, or a pipe
+            return File(stream.read())
+        return File(mmap.mmap(stream.fileno(), 0, access=mmap.ACCESS_COPY))
+
+
+def listing(data):
+    """What the lister prints for the bytes of a file, whether it opens or not."""
+    address, length, _owner = _lent(data)
+    return _into(_LIST_CAPACITY, _library.edf_list, address, length).decode("ascii")
+
+
+# ---- Writing
+
+
+def write(pixels, title="", data_type=None, dims=None, byte_order="HighByteFirst", configuration=1, sequence=1, instance="Psd",
+          memory=1):
+    """The bytes of a file of one block. `pixels` is a numpy array, or bytes in raster configuration 1, high byte first, with
+    `data_type` and `dims` (the first runs fastest). `byte_order` and `configuration` say how they are stored."""
+    if hasattr(pixels, "dtype"):
+        numpy = _numpy()
+        data_type = data_type or _data_type_of(pixels.dtype)
+        dims = pixels.shape[::-1] if dims is None else dims
+        pixels = numpy.ascontiguousarray(pixels, pixels.dtype.newbyteorder(">")).tobytes()
+    if data_type is None or dims is None:
+        raise TypeError("bytes need data_type and dims")
+    pixels, title, n = bytes(pixels), _encoded(title), len(dims)
+    identity = (_whole(sequence, -1 << 63, (1 << 63) - 1, Code.BAD_ARGUMENT), _number_of(_INSTANCES, instance, "instance"),
+                _whole(memory, 0, (1 << 63) - 1, Code.BAD_ARGUMENT))
+    codes = _number_of(_DATA_TYPES, data_type, "data_type"), _number_of(_BYTE_ORDERS, byte_order, "byte_order"), n
+    sizes = [_whole(dim, 0, MOST_BYTES, Code.BAD_ARGUMENT) for dim in dims] + [0] * (3 - n)
+    configuration = _whole(configuration, 0, (1 << 32) - 1, Code.BAD_ARGUMENT)
+    return _into(len(pixels) + _HEADER_CAPACITY, _library.edf_write, *identity, *codes, *sizes[:3], configuration, title, len(title),
+                 pixels, len(pixels))
+
+
+def _data_type_of(dtype):
+    """The data type of a numpy type."""
+    for number in range(1, 11):
+        if dtype.kind == _KINDS[number] and dtype.itemsize == _WIDTHS[number]:
+            return _DATA_TYPES[number]
+    raise TypeError("no data type of the format for numpy's %s" % dtype)

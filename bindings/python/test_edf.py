@@ -1,0 +1,379 @@
+"""Tests of edf.py: python3 -m unittest, in this folder. numpy is not needed; what needs it is skipped where it is not installed."""
+
+import ctypes
+import glob
+import os
+import pickle
+import subprocess
+import sys
+import tempfile
+import threading
+import unittest
+
+import edf
+
+try:
+    import numpy
+except ImportError:
+    numpy = None
+
+FIXTURES = os.path.join(os.path.dirname(os.path.abspath(__file__)), "..", "..", "tests", "fixtures")
+with_numpy = unittest.skipIf(numpy is None, "numpy is not installed")
+
+
+def fixture(name):
+    return os.path.join(FIXTURES, name)
+
+
+def opened():
+    """Every fixture that opens."""
+    for path in sorted(glob.glob(fixture("*.edf"))):
+        try:
+            yield os.path.basename(path), edf.open(path)
+        except edf.EdfError:
+            pass
+
+
+def answer(call, file):
+    """What a call answers, or its error."""
+    try:
+        return call(file)
+    except edf.EdfError as error:
+        return error.code, error.position
+
+
+class without_numpy:
+    """edf as it is where numpy is not installed."""
+
+    def __enter__(self):
+        self.module, edf._numpy_module = edf._numpy_module, None
+
+    def __exit__(self, *_):
+        edf._numpy_module = self.module
+
+
+def listed(path):
+    """What the lister of document 01 prints for a file, from the calls of edf.py."""
+    try:
+        file = edf.open(path)
+    except edf.EdfError as error:
+        return "refused %d %d\n" % (error.code, error.position)
+    lines = ["blocks %d" % len(file)]
+    for block in file.blocks:
+        line = "%d %d %d %d " % (block.number, block.start, block.header_length, block.data_length)
+        if block.kind == "general":
+            lines.append(line + "general")
+            continue
+        line += str(block.identity or "-")
+        try:
+            d = file.describe(block.number)
+            dims = "x".join(map(str, d.dims))
+            lines.append("%s %s %s %s %d %d %d" % (line, d.data_type, d.byte_order, dims, d.configuration, d.orientation, d.offset))
+        except edf.EdfError as error:
+            lines.append("%s refused %d %d" % (line, error.code, error.position))
+    return "\n".join(lines) + "\n"
+
+
+class Fixtures(unittest.TestCase):
+    def test_listings(self):
+        paths = glob.glob(fixture("*.edf"))
+        self.assertGreater(len(paths), 30)
+        for path in paths:
+            with open(path[:-4] + ".list") as expected:
+                self.assertEqual(listed(path), expected.read(), path)
+
+    def test_listing(self):
+        for path in glob.glob(fixture("*.edf")):
+            with open(path, "rb") as data, open(path[:-4] + ".list") as expected:
+                self.assertEqual(edf.listing(data.read()), expected.read(), path)
+        self.assertEqual(edf.listing(b""), "refused 3 0\n")
+
+    def test_header_agrees_with_lookup(self):
+        compared = 0
+        for name, file in opened():
+            for block in range(len(file)):
+                for key, text in file.header(block).items():
+                    self.assertEqual(file.text(block, key), text, (name, key))
+                    compared += 1
+        self.assertGreater(compared, 100)
+
+    def test_pixels_are_the_array(self):
+        compared = 0
+        for name, file in opened():
+            for block in file.blocks:
+                try:
+                    d = file.describe(block.number)
+                except edf.EdfError:
+                    continue
+                with without_numpy():
+                    pixels = file.array(block.number)
+                letter = dict(zip(edf._DATA_TYPES, " BbHhIifQqd"))[d.data_type]
+                numbers = memoryview(pixels).cast(letter)
+                dims = d.dims + (1, 1)
+                for n in range(min(len(numbers), 500)):
+                    index = n % dims[0], n // dims[0] % dims[1], n // dims[0] // dims[1]
+                    self.assertEqual(file.pixel(block.number, *index), numbers[n], (name, index))
+                    compared += 1
+        self.assertGreater(compared, 500)
+
+
+class Blocks(unittest.TestCase):
+    def test_general_block(self):
+        with edf.open(fixture("general_defaults.edf")) as file:
+            self.assertEqual([block.kind for block in file.blocks], ["general", "data", "data"])
+            self.assertEqual([str(block.identity) for block in file.blocks], ["None", "1.Image.Psd", "2.Image.Psd"])
+            header = file.header(1)
+            self.assertEqual(header["data type"], "UnsignedShort")
+            self.assertEqual(header[b"DATATYPE"], "UnsignedShort")
+            self.assertIn("DataType", list(header))
+            self.assertNotIn("EDF_DataBlocks", header)
+            self.assertIn("EDF_DataBlocks", file.header(0))
+            self.assertEqual(len(header), len(list(header)))
+            self.assertEqual(dict(header), {key: file.text(1, key) for key in header})
+            with self.assertRaises(KeyError):
+                header["no such key"]
+
+    def test_text_too_long(self):
+        file = edf.File(("{ Long = %s ; Short = y ; " % ("x" * 1024)).ljust(1534).encode("ascii") + b"}\n")
+        header = file.header(0)
+        self.assertEqual((list(header), header["short"]), (["Long", "Short"], "y"))
+        self.assertIn("Long", header)
+        for call in (lambda: header["Long"], lambda: file.text(0, "Long")):
+            with self.assertRaises(edf.EdfError) as caught:
+                call()
+            self.assertEqual((caught.exception.code, caught.exception.position), (edf.Code.TEXT_TOO_LONG, 0))
+
+    def test_keywords(self):
+        with edf.open(fixture("title_escapes.edf")) as file:
+            offset, length = file.find(0, "Title")
+            with open(fixture("title_escapes.edf"), "rb") as stream:
+                raw = stream.read()[offset : offset + length]
+            self.assertEqual(edf.unescape(b'"' + raw + b'"'), file.text(0, "Title"))
+            self.assertEqual(file.part(offset, length), raw)
+            for span in ((1024, 0), (1000, 25), (-1, 1), (0, 1 << 64), (1 << 64, 0), (1 << 64, 1)):
+                self.assertEqual(file.part(*span), b"", span)
+            self.assertEqual(file.whole_number(0, "Dim_1"), 3)
+
+    def test_errors(self):
+        with self.assertRaises(edf.EdfError) as caught:
+            edf.open(fixture("nul_in_header.edf"))
+        error = caught.exception
+        self.assertEqual((error.code, error.position), (edf.Code.BAD_HEADER_BYTE, 152))
+        self.assertEqual(str(error), "error 4 at 152: a byte that can't stand in a header: 0, above 127, or `{`")
+        again = pickle.loads(pickle.dumps(error))
+        self.assertEqual((again.code, again.position, str(again)), (error.code, error.position, str(error)))
+        file = edf.open(fixture("order_unknown.edf"))
+        with self.assertRaises(edf.EdfError) as caught:
+            file.array(0)
+        self.assertEqual((caught.exception.code, caught.exception.field), (17, "ByteOrder"))
+        for code in edf.Code:
+            self.assertGreater(len(edf.EdfError(code, 0).words), 5)
+
+    def test_numbers_out_of_range(self):
+        file = edf.open(fixture("raster_7.edf"))
+        for block in (-1, 1, 1 << 64, -1 << 64):
+            for call in (file.header, file.describe, file.array, lambda b: file.text(b, "Title"), lambda b: file.pixel(b, 0)):
+                with self.assertRaises(edf.EdfError) as caught:
+                    call(block)
+                self.assertEqual(caught.exception.code, edf.Code.NOT_FOUND)
+        for index in ((3, 0), (0, 2), (0, 0, 1), (-1,), (1 << 64,), (0, 1 << 64), (0, 0, 1 << 64)):
+            with self.assertRaises(edf.EdfError) as caught:
+                file.pixel(0, *index)
+            self.assertEqual(caught.exception.code, edf.Code.INDEX_OUTSIDE)
+        with self.assertRaises(TypeError):
+            file.pixel(0, 0.5)
+
+    def test_a_block_alone_answers_as_in_the_file(self):
+        compared = 0
+        for name, file in opened():
+            whole = edf.File(bytes(ctypes.string_at(*file._bytes[:2])))
+            for block in range(len(file)):
+                whole._parts[block] = 0, file._bytes[1], block
+                for call in (lambda f: f.describe(block), lambda f: f.find(block, "Dim_1"), lambda f: f.text(block, "datatype"),
+                             lambda f: f.pixel(block, 1), lambda f: bytes(f.array(block)), lambda f: f.whole_number(block, "SIZE")):
+                    self.assertEqual(answer(call, file), answer(call, whole), (name, block))
+                    compared += 1
+        self.assertGreater(compared, 100)
+
+    def test_a_block_that_alone_is_another(self):
+        def block(*statements):
+            body = "{\n" + "".join("%s ;\n" % statement for statement in statements)
+            return body.ljust(510).encode("ascii") + b"}\n1234"
+
+        first = block("Size = 4", "DataType = UnsignedByte", "Dim_1 = 4")
+        for keys in (["EDF_BinarySize = 4"], ["EDF_DataBlockID = 1.Image.Psd", "EDF_BinarySize = 4"], ["EDF_DataBlockID = 1.Image.Psd"]):
+            file = edf.File(first + block(*keys + ["Size = 4", "DataType = UnsignedShort", "Dim_1 = 2"]) + first)
+            self.assertEqual(file.pixel(1, 1), 0x3334)
+            self.assertEqual(file.find(1, "size")[0], 516 + len("{\n" + "".join(key + " ;\n" for key in keys) + "Size = "))
+            self.assertEqual(file.pixel(2, 1), 0x32)
+            self.assertEqual((file._parts[1], file._parts[2]), ((0, 3 * 516, 1), (2 * 516, 516, 0)))
+
+    def test_missing_and_closed(self):
+        with self.assertRaises(FileNotFoundError):
+            edf.open(fixture("no such file"))
+        with self.assertRaises(IsADirectoryError):
+            edf.open(FIXTURES)
+        with edf.open(fixture("raster_7.edf")) as file:
+            pass
+        for call in (file.header, file.describe, file.array):
+            with self.assertRaises(ValueError):
+                call(0)
+
+    def test_empty_and_other_buffers(self):
+        for empty in (b"", bytearray(), memoryview(b"")):
+            with self.assertRaises(edf.EdfError) as caught:
+                edf.File(empty)
+            self.assertEqual((caught.exception.code, caught.exception.position), (edf.Code.NO_HEADER, 0))
+        with tempfile.NamedTemporaryFile() as stream:
+            with self.assertRaises(edf.EdfError):
+                edf.open(stream.name)
+        with open(fixture("raster_7.edf"), "rb") as stream:
+            data = stream.read()
+        reading, writing = os.pipe()
+        os.write(writing, data)
+        os.close(writing)
+        self.assertEqual(edf.open("/dev/fd/%d" % reading).pixel(0, 2, 1), 6)
+        os.close(reading)
+        twice = bytes(byte for byte in data for _ in range(2))
+        for same in (data, bytearray(data), memoryview(data), memoryview(bytearray(data)), memoryview(twice)[::2]):
+            self.assertEqual(edf.File(same).pixel(0, 2, 1), 6)
+        with self.assertRaises(TypeError):
+            edf.File("text")
+
+    def test_bytes_live_as_long_as_the_file(self):
+        with open(fixture("raster_7.edf"), "rb") as stream:
+            file = edf.File(bytearray(stream.read()))
+        self.assertEqual([file.pixel(0, i, j) for j in range(2) for i in range(3)], [1, 2, 3, 4, 5, 6])
+
+    def test_threads(self):
+        file, wrong = edf.open(fixture("fabio_multi_10.edf")), []
+
+        def read():
+            for turn in range(200):
+                if file.header(turn % 10)["EDF_DataBlockID"] != "%d.Image.Psd" % (turn % 10):
+                    wrong.append(turn)
+
+        threads = [threading.Thread(target=read) for _ in range(4)]
+        for thread in threads:
+            thread.start()
+        for thread in threads:
+            thread.join()
+        self.assertEqual(wrong, [])
+
+
+class Arrays(unittest.TestCase):
+    def test_bytes_without_numpy(self):
+        with without_numpy(), edf.open(fixture("raster_7.edf")) as file:
+            expected = b"".join(n.to_bytes(2, sys.byteorder) for n in (1, 2, 3, 4, 5, 6))
+            self.assertEqual(file.array(0), expected)
+            self.assertIsInstance(file.array(0), bytes)
+
+    def test_read_into(self):
+        with edf.open(fixture("raster_7.edf")) as file:
+            out = bytearray(b"\x09" * 14)
+            self.assertEqual(file.read_into(0, out, "HighByteFirst"), 12)
+            self.assertEqual(out, b"\0\1\0\2\0\3\0\4\0\5\0\6\x09\x09")
+            with self.assertRaises(edf.EdfError) as caught:
+                file.read_into(0, bytearray(11))
+            self.assertEqual(caught.exception.code, edf.Code.BUFFER_TOO_SMALL)
+            with self.assertRaises(ValueError):
+                file.read_into(0, out, "MiddleByteFirst")
+
+    def test_empty_array(self):
+        body = b"{\nSize = 0 ;\n"
+        file = edf.File(body + b" " * (510 - len(body)) + b"}\n")
+        self.assertEqual(file.describe(0).dims, (0,))
+        with without_numpy():
+            self.assertEqual(file.array(0), b"")
+        self.assertEqual(len(file.array(0)), 0)
+
+    def test_numpy_is_not_imported_before_it_is_needed(self):
+        code = "import sys, edf; edf.open(sys.argv[1]).header(0); print('numpy' in sys.modules)"
+        here = os.path.dirname(os.path.abspath(__file__))
+        printed = subprocess.check_output([sys.executable, "-c", code, fixture("raster_7.edf")], cwd=here)
+        self.assertEqual(printed.strip(), b"False")
+
+    @with_numpy
+    def test_numpy_array(self):
+        with edf.open(fixture("raster_7.edf")) as file:
+            array = file.array(0)
+        self.assertEqual(array.dtype, numpy.dtype("uint16"))
+        self.assertEqual(array.tolist(), [[1, 2, 3], [4, 5, 6]])
+        with edf.open(fixture("silx_3d_uint16.edf")) as file:
+            array = file.array(0)
+            self.assertEqual(array.shape, (2, 3, 4))
+            self.assertEqual(array[1, 2, 3], file.pixel(0, 3, 2, 1))
+            self.assertEqual(file.pixel(numpy.int64(0), numpy.int64(3), numpy.uint8(2), 1), array[1, 2, 3])
+
+    @with_numpy
+    def test_read_into_a_stack(self):
+        with edf.open(fixture("fabio_multi_10.edf")) as file:
+            stack = numpy.zeros((len(file), 4, 6), "uint16")
+            for block in range(len(file)):
+                file.read_into(block, stack[block])
+            self.assertTrue(all((stack[block] == file.array(block)).all() for block in range(len(file))))
+            with self.assertRaises((TypeError, ValueError)):
+                file.read_into(0, stack[0].T)
+
+
+class Writing(unittest.TestCase):
+    def test_example(self):
+        data = edf.write(b"\0\1\0\2\0\3\0\4\0\5\0\6", "x;", "UnsignedShort", (3, 2), configuration=6)
+        self.assertEqual(data[512:524], b"\0\3\0\6\0\2\0\5\0\1\0\4")
+        with tempfile.NamedTemporaryFile() as stream:
+            stream.write(data)
+            stream.flush()
+            self.assertEqual(listed(stream.name), "blocks 1\n0 0 512 512 1.Image.Psd UnsignedShort HighByteFirst 3x2 6 1 0\n")
+        file = edf.File(data)
+        self.assertEqual(file.header(0)["title"], "x;")
+        self.assertEqual(edf.File(edf.write(b"\1", "", "UnsignedByte", [1], sequence=-5, instance="Error", memory=7)).blocks[0].identity,
+                         (-5, "Error", 7))
+
+    def test_bad_arguments(self):
+        def code(*arguments, **named):
+            with self.assertRaises(edf.EdfError) as caught:
+                edf.write(*arguments, **named)
+            return caught.exception.code
+
+        bad = edf.Code.BAD_ARGUMENT
+        self.assertEqual(code(b"\1", "", "UnsignedByte", [2]), bad)
+        self.assertEqual(code(b"\1", "", "UnsignedByte", []), bad)
+        self.assertEqual(code(b"\1", "", "UnsignedByte", [1, 1, 1, 1]), bad)
+        self.assertEqual(code(b"\1", "", "UnsignedByte", [(1 << 64) + 1]), bad)
+        self.assertEqual(code(b"\1", "", "UnsignedByte", [-1]), bad)
+        self.assertEqual(code(b"\1", "\x80", "UnsignedByte", [1]), bad)
+        self.assertEqual(code(b"\1", "", "UnsignedByte", [1], configuration=(1 << 32) + 1), bad)
+        self.assertEqual(code(b"\1", "", "UnsignedByte", [1], sequence=1 << 63), bad)
+        self.assertEqual(code(b"\1", "", "UnsignedByte", [1], memory=0), bad)
+        self.assertEqual(code(b"\1", "", "UnsignedByte", [1], memory=(1 << 64) + 1), bad)
+        self.assertEqual(code(b"\1", "x" * 1024, "UnsignedByte", [1]), edf.Code.TEXT_TOO_LONG)
+        self.assertRaises(ValueError, edf.write, b"\1", "", "UnsignedBits", [1])
+        self.assertRaises(ValueError, edf.write, b"\1", "", "UnsignedByte", [1], instance="Pds")
+        self.assertRaises(TypeError, edf.write, b"\1")
+
+    def test_text_forms(self):
+        for text in ("", "x;", '"', "\\", " a ", "\r\n", "{}"):
+            self.assertEqual(edf.unescape(edf.escape(text)), text)
+        self.assertEqual(edf.escape("x;"), '"x\\:"')
+        self.assertEqual(edf.unescape(" a\\:b "), "a;b")
+        self.assertRaises(edf.EdfError, edf.escape, "x" * 1024)
+        self.assertRaises(edf.EdfError, edf.unescape, "{")
+
+    @with_numpy
+    def test_numpy_round_trip(self):
+        for letter in "BbHhIifQqd":
+            for shape in ((5,), (3, 5), (2, 3, 5)):
+                for byte_order in ("HighByteFirst", "LowByteFirst"):
+                    array = (numpy.arange(numpy.prod(shape)) * 7 - 20).astype(letter).reshape(shape)
+                    for source in (array, array.astype(array.dtype.newbyteorder())):
+                        data = edf.write(source, byte_order=byte_order, configuration=2)
+                        again = edf.File(data).array(0)
+                        self.assertEqual((again.dtype, again.shape), (array.dtype, array.shape))
+                        self.assertTrue((again == array).all())
+        self.assertRaises(TypeError, edf.write, numpy.zeros(3, "complex64"))
+        turned = numpy.arange(6, dtype="uint16").reshape(2, 3).T
+        self.assertTrue((edf.File(edf.write(turned)).array(0) == turned).all())
+
+
+if __name__ == "__main__":
+    unittest.main()
