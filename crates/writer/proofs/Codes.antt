@@ -1,36 +1,23 @@
 -- The words of the types and byte orders: each is a word, and its code is the code that it is taken by. From one computed test.
 use mathlib.Core.Path.{_≡_, refl, ap, subst}
 use mathlib.Core.Bool.{Bool, true, false, _&&_, false≢true}
-use mathlib.Core.Logic.{⊎-elim}
 use mathlib.Core.List.{List, []}
 use mathlib.Core.Option.{Option, none, some}
-use Prim.Native.Nat.{ℕ, zero, suc, _-_, _≤_, _<_}
-use native.Mathlib.Nat.{eq-or-lt-of-le}
+use Prim.Native.Nat.{ℕ, suc, _-_, _≤_, _<_}
 use native.Mathlib.Omega.{arith}
 use borrow.Author.Tests.{eqb-true, leb-true}
 use lib.Dec.{eqb, leb}
 use lib.ListN.{length, getD}
 use Rattle.scan.specs.Byte.{same}
+use Rattle.scan.proofs.Below.{all-at}
 use Rattle.text.specs.Text.{every}
 use Rattle.text.proofs.Words.{Word, wordByte, word}
 use Rattle.raster.specs.Types.{types, typeOf, typeWords, orderWords, codeFrom, codeOf}
 use Rattle.writer.proofs.Allowed.{Within}
 
--- ---- A test of the numbers below n, computed
-
-abbrev pub allBelow : (ℕ → Bool) → ℕ → Bool
-allBelow p zero = true
-allBelow p (suc n) = p n && allBelow p n
-
 pub and-both : (a b : Bool) → (a && b) ≡ true → (a ≡ true) × (b ≡ true)
 and-both true b e = (refl, e)
 and-both false b e = absurd (false≢true e)
-
-pub below : (p : ℕ → Bool) (n : ℕ) → allBelow p n ≡ true → (k : ℕ) → k < n → p k ≡ true
-below p zero e k h = absurd (omega arith)
-below p (suc n) e k h =
-    let b = and-both (p n) (allBelow p n) e in
-    ⊎-elim (λ q. let same : k ≡ n = omega arith in rw same (b .0)) (λ l. below p n (b .1) k (omega arith)) (eq-or-lt-of-le h)
 
 -- A word of at most 20 bytes with a code.
 abbrev isCode : ℕ → Option ℕ → Bool
@@ -65,22 +52,22 @@ pub type-coded : (code : ℕ) → Within 1 10 code → Coded typeWords code (typ
 unfolding typeWords types typeOf codeOf codeFrom same
 type-coded code h =
     from-one (λ c. Coded typeWords c (typeOf c .word)) h (λ k l. coded-says typeWords (suc k) (typeOf (suc k) .word)
-    (below (λ k. coded typeWords (suc k) (typeOf (suc k) .word)) 10 refl k l))
+    (all-at (λ k. coded typeWords (suc k) (typeOf (suc k) .word)) 10 refl k l))
 
 pub order-coded : (code : ℕ) → Within 1 2 code → Coded orderWords code (getD orderWords (code - 1) [])
 unfolding orderWords codeOf codeFrom same
 order-coded code h =
     from-one (λ c. Coded orderWords c (getD orderWords (c - 1) [])) h (λ k l. coded-says orderWords (suc k) (getD orderWords (suc k - 1) [])
-    (below (λ k. coded orderWords (suc k) (getD orderWords (suc k - 1) [])) 2 refl k l))
+    (all-at (λ k. coded orderWords (suc k) (getD orderWords (suc k - 1) [])) 2 refl k l))
 
 -- A type is one byte wide at least.
 pub type-wide : (code : ℕ) → Within 1 10 code → 1 ≤ typeOf code .width
 unfolding types typeOf
 type-wide code h =
-    from-one (λ c. 1 ≤ typeOf c .width) h (λ k l. leb-true 1 (typeOf (suc k) .width) (below (λ k. leb 1 (typeOf (suc k) .width)) 10 refl k l))
+    from-one (λ c. 1 ≤ typeOf c .width) h (λ k l. leb-true 1 (typeOf (suc k) .width) (all-at (λ k. leb 1 (typeOf (suc k) .width)) 10 refl k l))
 
 -- And eight at most.
 pub type-narrow : (code : ℕ) → Within 1 10 code → typeOf code .width ≤ 8
 unfolding types typeOf
 type-narrow code h =
-    from-one (λ c. typeOf c .width ≤ 8) h (λ k l. leb-true (typeOf (suc k) .width) 8 (below (λ k. leb (typeOf (suc k) .width) 8) 10 refl k l))
+    from-one (λ c. typeOf c .width ≤ 8) h (λ k l. leb-true (typeOf (suc k) .width) 8 (all-at (λ k. leb (typeOf (suc k) .width) 8) 10 refl k l))

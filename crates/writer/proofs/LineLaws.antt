@@ -9,6 +9,7 @@ use lib.Dec.{eqb, leb}
 use lib.IntN.{ℤ, pos, negsuc}
 use lib.ListN.{length, take, drop, getD, length-append}
 use Rattle.scan.specs.Byte.{ascii, same}
+use Rattle.scan.proofs.Below.{all-at}
 use Rattle.scan.proofs.Decides.{decided, same-decides}
 use Rattle.text.specs.Decimal.{decimal, digitsOf}
 use Rattle.blocks.specs.IdentityText.{isOne, instanceWord, memoryText, identityText}
@@ -16,7 +17,6 @@ use Rattle.raster.specs.Types.{types, typeOf, orderWords}
 use Rattle.writer.specs.File.{dimKeywords}
 use Rattle.writer.specs.Front.{keyword}
 use Rattle.writer.specs.Render.{line, lines}
-use Rattle.writer.proofs.Codes.{below}
 
 module _ (k v : List ℕ) where
   pub line-is : ((k ++ ascii " = ") ++ v) ++ ascii " ;\r\n" ≡ line (keyword k v)
@@ -81,7 +81,7 @@ startOf k = getD typeStarts k 0
 part-at : (k : ℕ) → k < 10 → take (startOf (suc k) - startOf k) (drop (startOf k) typeRow) ≡ typeOf (suc k) .word
 unfolding typeOf types same
 part-at k h =
-    decided (same-decides _ _) (below (λ (k : ℕ). same (take (startOf (suc k) - startOf k) (drop (startOf k) typeRow)) (typeOf (suc k) .word)) 10 refl k h)
+    decided (same-decides _ _) (all-at (λ (k : ℕ). same (take (startOf (suc k) - startOf k) (drop (startOf k) typeRow)) (typeOf (suc k) .word)) 10 refl k h)
 
 pub type-part : (k : ℕ) → 1 ≤ k → k ≤ 10 → take (startOf k - startOf (k - 1)) (drop (startOf (k - 1)) typeRow) ≡ typeOf k .word
 type-part k h l =
@@ -91,9 +91,9 @@ type-part k h l =
 pub type-inside : (k : ℕ) → 1 ≤ k → k ≤ 10 → (startOf (k - 1) ≤ startOf k) × (startOf k ≤ startOf (k - 1) + 15) × (startOf k ≤ 114)
 type-inside zero h l = absurd (omega arith)
 type-inside (suc k) h l = let e : suc k - 1 ≡ k = omega arith in rw e (
-  leb-true (startOf k) (startOf (suc k)) (below (λ (k : ℕ). leb (startOf k) (startOf (suc k))) 10 refl k (omega arith)),
-  leb-true (startOf (suc k)) (startOf k + 15) (below (λ (k : ℕ). leb (startOf (suc k)) (startOf k + 15)) 10 refl k (omega arith)),
-  leb-true (startOf (suc k)) 114 (below (λ (k : ℕ). leb (startOf (suc k)) 114) 10 refl k (omega arith)),
+  leb-true (startOf k) (startOf (suc k)) (all-at (λ (k : ℕ). leb (startOf k) (startOf (suc k))) 10 refl k (omega arith)),
+  leb-true (startOf (suc k)) (startOf k + 15) (all-at (λ (k : ℕ). leb (startOf (suc k)) (startOf k + 15)) 10 refl k (omega arith)),
+  leb-true (startOf (suc k)) 114 (all-at (λ (k : ℕ). leb (startOf (suc k)) 114) 10 refl k (omega arith)),
 )
 
 -- ---- The Dims

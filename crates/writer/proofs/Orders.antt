@@ -7,13 +7,14 @@ use native.Mathlib.Omega.{arith}
 use borrow.Author.Tests.{eqb-true}
 use lib.Dec.{eqb}
 use lib.ListN.{length, getD}
+use Rattle.scan.proofs.Below.{all-at}
 use Rattle.raster.specs.Axis.{Axis, forward, configurations, insertWithAfter, orderFrom, orderOf}
 use Rattle.raster.specs.Position.{indexOf}
 use Rattle.raster.specs.Strides.{axisOf, axesOf}
 use Rattle.raster.specs.declared.configuration.Direction.{Direction}
 use Rattle.raster.specs.declared.configuration.Order.{Order}
 use Rattle.writer.specs.Stored.{axisAt}
-use Rattle.writer.proofs.Codes.{below, and-both}
+use Rattle.writer.proofs.Codes.{and-both}
 
 pub data Permutes : ℕ → ℕ → ℕ → Type 0 where
   p123 : Permutes 1 2 3
@@ -59,7 +60,7 @@ order-test : (m : ℕ) → m < 48
     → (eqb (length (orderOf 3 (suc m))) 3 && permutes (axisIndex (suc m) 0) (axisIndex (suc m) 1) (axisIndex (suc m) 2)) ≡ true
 unfolding axisAt orderOf orderFrom insertWithAfter configurations
 order-test m h =
-    below (λ (m : ℕ). eqb (length (orderOf 3 (suc m))) 3 && permutes (axisIndex (suc m) 0) (axisIndex (suc m) 1) (axisIndex (suc m) 2)) 48 refl m h
+    all-at (λ (m : ℕ). eqb (length (orderOf 3 (suc m))) 3 && permutes (axisIndex (suc m) 0) (axisIndex (suc m) 1) (axisIndex (suc m) 2)) 48 refl m h
 
 module _ (number : ℕ) (some : 1 ≤ number) (few : number ≤ 48) where
   tested : (eqb (length (orderOf 3 number)) 3 && permutes (axisIndex number 0) (axisIndex number 1) (axisIndex number 2)) ≡ true

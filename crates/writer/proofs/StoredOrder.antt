@@ -14,7 +14,7 @@ use Rattle.raster.specs.Position.{product, indexOf, dimOf, along, coordinate, p
 use Rattle.raster.specs.Strided.{Octets, placeOf, Inside3, deliveredAt}
 use Rattle.raster.specs.Types.{DataType}
 use Rattle.raster.specs.declared.stride.Steps.{Steps}
-use Rattle.raster.proofs.Inverse.{stored-back}
+use Rattle.raster.proofs.Inverse.{along-twice, along-inside, stored-back}
 use Rattle.raster.proofs.Joined.{joined-same, joined-rows}
 use Rattle.raster.proofs.OrderLaws.{as-three, order-extent}
 use Rattle.raster.proofs.Positions.{extent, position-cons}
@@ -66,15 +66,6 @@ module _ (d1 d2 d3 : ℕ) where
       at (suc (suc (suc k))) l = absurd (omega arith)
 
 -- ---- The element at a stored position
-
--- Backward twice is forward.
-along-twice : (a : Axis) (d i : ℕ) → i < d → along a d (along a d i) ≡ i
-along-twice (forward n) d i h = refl
-along-twice (backward n) d i h = omega arith
-
-along-inside : (a : Axis) (d i : ℕ) → i < d → along a d i < d
-along-inside (forward n) d i h = h
-along-inside (backward n) d i h = omega arith
 
 module _ (n number d1 d2 d3 : ℕ) (some : 1 ≤ n) (few : n ≤ 3) (e2 : n < 2 → d2 ≡ 1) (e3 : n < 3 → d3 ≡ 1)
     (low : 1 ≤ number) (high : number ≤ configurations n) where
