@@ -1,4 +1,5 @@
 pub mod CallLaws
+pub mod CodeLaws
 pub mod Contracts
 pub mod Examples
 pub mod Main

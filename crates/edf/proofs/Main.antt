@@ -2,6 +2,7 @@
 -- names (Contracts, beside this file), so `Open file before r after` is any call of `open` on `file`, whose table held `before`, that
 -- answers r and leaves `after`.
 use mathlib.Core.Path.{_≡_, refl, sym, ap, _∙_}
+use mathlib.Core.Bool.{Bool, true, false}
 use mathlib.Core.List.{List, [], _∷_, _++_}
 use Prim.Native.Nat.{ℕ, _+_, _*_, _≤_, _<_}
 use native.Mathlib.Omega.{arith}
@@ -41,10 +42,12 @@ use Rattle.writer.proofs.Pixels.{Inside, positionIn, pixel}
 use Rattle.writer.proofs.Written.{Fits, rowOf}
 use Rattle.listing.specs.Listing.{line, arrayColumns, rowColumns, countLine, listing}
 use Rattle.listing.proofs.OneBlock.{one-block-listing}
+use Rattle.edf.specs.Codes.{openCodes, findCodes, numberCodes, textCodes, describeCodes, arrayCodes, pixelCodes, writeCodes, listCodes, IsCodes}
 use Rattle.edf.specs.Calls.{IntoBuffer, Open, Find, WholeNumber, Text, Escape, Unescape, Describe, ReadArray, ReadPixel, Write, Lists}
 use Rattle.edf.proofs.CallLaws.{opened-by, located-by, number-by, described-by, sampled-by}
 use Rattle.edf.proofs.CallLaws.{with-room, wrote, kept, refused-by, same-written, unescaped-back, delivered-length, delivered-pixel}
 use Rattle.edf.proofs.CallLaws.{opens-rows, file-small, not-found, no-number, no-text, no-description, array-refused, pixel-refused}
+use Rattle.edf.proofs.CodeLaws.{open-gives, find-gives, number-gives, describe-gives, pixel-gives, text-gives, array-read-gives, escape-gives, unescape-gives, write-gives, list-gives, no-zero}
 use Rattle.edf.proofs.OpeningLaws.{opens-as}
 
 -- ---- What is written reads back, for every frame, title and pixels: all types, one to three dimensions, every configuration
@@ -175,6 +178,47 @@ module _ {s : List ℕ} {table left : List Row} {x : Error} (rows : 256 ≤ leng
 
   pub pixel-refuses : {i1 i2 i3 : ℕ} {r : Sampled} → ReadPixel s block i1 i2 i3 r → r ≡ sampled.Failed x
   pixel-refuses {i1} {i2} {i3} {r} c = sampled-by r (c .answers ∙ pixel-refused rows refuses block i1 i2 i3)
+
+-- ---- The code of an error is one that document 01 names for the call (specs/Codes), and never 0
+
+pub open-codes : {s : List ℕ} {before after : List Row} {x : Error} → Open s before (opened.Failed x) after → openCodes (x .code) ≡ true
+open-codes {s} {before} c = open-gives (length before) s .hold (sym (c .answers))
+
+module _ {s : List ℕ} {block : ℕ} {x : Error} where
+  pub find-codes : {key : List ℕ} → Find s block key (located.Failed x) → findCodes (x .code) ≡ true
+  find-codes {key} c = find-gives s block key .hold (sym (c .answers))
+
+  pub number-codes : {key : List ℕ} → WholeNumber s block key (number.Failed x) → numberCodes (x .code) ≡ true
+  number-codes {key} c = number-gives s block key .hold (sym (c .answers))
+
+  pub describe-codes : Describe s block (described.Failed x) → describeCodes (x .code) ≡ true
+  describe-codes c = describe-gives s block .hold (sym (c .answers))
+
+  pub pixel-codes : {i1 i2 i3 : ℕ} → ReadPixel s block i1 i2 i3 (sampled.Failed x) → pixelCodes (x .code) ≡ true
+  pixel-codes {i1} {i2} {i3} c = pixel-gives s block i1 i2 i3 .hold (sym (c .answers))
+
+module _ {before after : List ℕ} {x : Error} where
+  pub text-codes : (s : List ℕ) (block : ℕ) (key : List ℕ) → Text s block key before (Failed x) after → textCodes (x .code) ≡ true
+  text-codes s block key c = text-gives before s block key .hold (sym (c .answers))
+
+  pub array-codes : (s : List ℕ) (block order : ℕ) → ReadArray s block order before (Failed x) after → arrayCodes (x .code) ≡ true
+  array-codes s block order c = array-read-gives before s block order .hold (sym (c .answers))
+
+  pub escape-codes : (l : List ℕ) → Escape l before (Failed x) after → writeCodes (x .code) ≡ true
+  escape-codes l c = escape-gives before l .hold (sym (c .answers))
+
+  pub unescape-codes : (l : List ℕ) → Unescape l before (Failed x) after → writeCodes (x .code) ≡ true
+  unescape-codes l c = unescape-gives before l .hold (sym (c .answers))
+
+  pub write-codes : (f : Frame) (title pixels : List ℕ) → Write f title pixels before (Failed x) after → writeCodes (x .code) ≡ true
+  write-codes f title pixels c = write-gives before f title pixels .hold (sym (c .answers))
+
+  pub list-codes : (s : List ℕ) → Lists s before (Failed x) after → listCodes (x .code) ≡ true
+  list-codes s c = list-gives before (listing s) .hold (sym (c .writes .answers))
+
+-- So a C program can take 0 for success.
+pub zero-is-no-code : (t : ℕ → Bool) → IsCodes t → t 0 ≡ false
+zero-is-no-code = no-zero
 
 -- ---- A call has one answer
 

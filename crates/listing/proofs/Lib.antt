@@ -1,5 +1,6 @@
 pub mod ColumnLaws
+pub mod DescriptionErrors
+pub mod ErrorLaws
 pub mod Listed
 pub mod OneBlock
-pub mod Positions
 pub mod RowLaws

@@ -31,7 +31,7 @@ use Rattle.listing.specs.Input.{inputListing}
 use Rattle.listing.specs.Listing.{after, arrayColumns, descriptionColumns, details, blockLines, refusedLine, countLine, listing, listingOf}
 use Rattle.listing.specs.Rows.{FileRows, IsRow, rowDescription, Answered}
 use Rattle.listing.proofs.ColumnLaws.{details-are}
-use Rattle.listing.proofs.Positions.{description-small}
+use Rattle.listing.proofs.DescriptionErrors.{description-errors}
 
 module _ (s : List ℕ) where
   -- A row whose headers stand has a view.
@@ -82,7 +82,7 @@ module _ (s : List ℕ) where
     row-answered {d} e = (i .view .row .size, block-valid (i .view) d (sym (e ∙ by-view)))
 
     pub row-refused : {e : Error} → failed e ≡ rowDescription s first row → e .position ≤ 7
-    row-refused e = description-small (i .view) .small (sym (e ∙ by-view))
+    row-refused e = description-errors (i .view) .hold (sym (e ∙ by-view)) .2
 
   -- By the view of the row.
   module _ (first row : Row) where
