@@ -1,6 +1,6 @@
-//! The functions that the tests call are all functions of include/edf.h, with the arguments that it gives them.
+//! The functions that the tests call are all functions of the verified library, with the arguments that include/edf.h gives them.
 
-use std::collections::BTreeMap;
+use std::collections::{BTreeMap, BTreeSet};
 use std::fs;
 
 /// The types of a function's arguments and of its answer, by its name.
@@ -61,10 +61,19 @@ fn of_tests(text: &str) -> Signatures {
     block.split(';').filter_map(signature).collect()
 }
 
+/// The names of the functions that the library for C exports; edf.h has some more, which are not of the verified library.
+fn exported(text: &str) -> BTreeSet<String> {
+    let names = text.split("pub extern \"C\" fn ").skip(1).filter_map(|rest| rest.split_once('('));
+    names.map(|(name, _)| name.to_string()).collect()
+}
+
 #[test]
 fn the_same_functions() {
-    let header = of_header(&read("../include/edf.h"));
+    let library = exported(&read("../crates/edf_c/src/lib.rt"));
+    let mut header = of_header(&read("../include/edf.h"));
+    header.retain(|name, _| library.contains(name));
     println!("{header:?}");
+    assert_eq!(header.keys().cloned().collect::<BTreeSet<_>>(), library);
     assert_eq!(header, of_tests(&read("src/library.rs")));
     assert!(header.len() >= 10);
     assert_eq!(header["edf_find"], ["*const u8", "usize", "usize", "*const u8", "usize", "*mut usize", "*mut usize", "*mut usize", "u8"]);
