@@ -2,8 +2,7 @@
 use mathlib.Core.Path.{_≡_, refl, sym, ap, subst, _∙_}
 use mathlib.Core.Bool.{Bool, true, false, cond, not}
 use mathlib.Core.List.{List, reverse-reverse}
-use Prim.Native.Nat.{ℕ, _/_, _^_, _<_}
-use native.Mathlib.Nat.{mul-div-cancel}
+use Prim.Native.Nat.{ℕ, _^_, _<_}
 use native.Mathlib.Omega.{arith}
 use borrow.Author.Tests.{eq-eqb, ne-eqb, eqb-true}
 use lib.Dec.{eqb}
@@ -17,11 +16,11 @@ use Rattle.raster.specs.Element.{offsetBits, elementBits, elementBytes}
 use Rattle.raster.specs.Strided.{Octets, turned, Width}
 use Rattle.raster.specs.Types.{Class, unsigned, signed, float, DataType}
 use Rattle.raster.proofs.RoundTrip.{number-bound, element-moved, float-offset}
-use Rattle.offsets.specs.Shifting.{weight, integer, Shifts, shiftedBytes}
+use Rattle.offsets.specs.Shifting.{integer, Shifts, shiftedBytes}
 use Rattle.offsets.specs.declared.shift.Shift.{Shift}
 use Rattle.delivery.specs.Converting.{classNumber, differ, converted, Converts}
 use Rattle.delivery.specs.declared.conversion.Conversion.{Conversion}
-use Rattle.delivery.proofs.Limits.{width-some, some-weight}
+use Rattle.delivery.proofs.Limits.{width-some}
 use Rattle.delivery.proofs.Tables.{is-float}
 
 twice : (order asked : Bool) (l : List ℕ) → turned (cond order (not asked) asked) l ≡ turned asked (turned order l)
@@ -53,11 +52,8 @@ module _ (t : DataType) (order asked w n : ℕ) (offset : ℤ) (s : Shift) (wide
       → shiftedBytes w s order asked l ≡ elementBytes t order offset asked l
   unfolding shiftedBytes elementBytes elementBits
   added f shifts l h e =
-      let r = width-some width in
       let b : numberOf order l < 256 ^ w = subst (λ (k : ℕ). numberOf order l < 256 ^ k) (e ∙ sym wide) (number-bound order l h) in
-      let k = some-weight w (omega arith) (omega arith) in
-      ap (λ (x : ℕ). bytesOf asked w (x / weight w)) (shifts (numberOf order l) b)
-      ∙ ap (bytesOf asked w) (mul-div-cancel (offsetBits (integer (eqb n 1)) w offset (numberOf order l)) k)
+      ap (bytesOf asked w) (shifts (numberOf order l) b)
       ∙ (λ j. bytesOf asked (wide j) (offsetBits (sym (integer-class (t .class) n class f) j) (wide j) offset (numberOf order l)))
 
   module _ (reverses : Bool) (er : reverses ≡ differ order asked) where

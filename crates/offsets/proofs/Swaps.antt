@@ -6,14 +6,14 @@ use Prim.Native.Nat.{ℕ, zero, suc, _+_, _-_, _*_, _/_, _%_, _^_, _≤_, _<_}
 use native.Mathlib.Nat.{zero-add, suc-add, mul-one, div-one, div-div-eq-div-mul, pow-succ', mul-assoc, mod-lt, mul-lt-mul-of-pos-right, one-le-pow}
 use native.Mathlib.Omega.{arith}
 use lib.Dec.{eqb}
-use lib.ListN.{length, replicate, length-reverse}
+use lib.ListN.{length, getD, replicate, length-reverse}
 use Rattle.raster.specs.Bytes.{highFirst, lowFirst, numberOf, lowBytes}
 use Rattle.raster.specs.Strided.{Octets, turned}
 use Rattle.raster.proofs.Elements.{orders-agree}
 use Rattle.raster.proofs.RoundTrip.{octets-turned, low-bound, low-length, bytes-turned, length-bytes}
 use Rattle.elements.proofs.Filling.{reads, array-is}
-use Rattle.offsets.proofs.Scaling.{whole}
-use Rattle.offsets.specs.Shifting.{shiftBy, weight, swapped, alignedFrom, restoredTo, shiftedBytes}
+use Rattle.offsets.proofs.Scaling.{whole, high-end}
+use Rattle.offsets.specs.Shifting.{shiftBy, shiftHigh, weight, swapped, alignedFrom, restoredTo, shiftedBytes}
 use Rattle.offsets.specs.declared.shift.Shift.{Shift}
 
 low-zeros : (k : ℕ) → lowBytes k 0 ≡ replicate k 0
@@ -103,13 +103,45 @@ restored-by : (back : Bool) (w n : ℕ) → w ≤ 8
 restored-by true w n k = swapped-back w (8 - w) n (omega arith)
 restored-by false w n k = refl
 
-pub shifted-is : (w : ℕ) (s : Shift) (order asked : ℕ) (l : List ℕ) → w ≤ 8 → Octets l → length l ≡ w
-    → lowBytes w (restoredTo asked (weight w) (shiftBy s (alignedFrom order (weight w) (lowFirst l)))) ≡ shiftedBytes w s order asked l
+pub shifted-is : (w : ℕ) (s : Shift) (order asked : ℕ) (l : List ℕ) → 0 < w → w ≤ 8 → Octets l → length l ≡ w
+    → lowBytes w (restoredTo asked (weight w) (shiftHigh (weight w) s (alignedFrom order (weight w) (lowFirst l)))) ≡ shiftedBytes w s order asked l
 unfolding alignedFrom restoredTo shiftedBytes numberOf
-shifted-is w s order asked l k h e =
-    ap (λ (x : ℕ). lowBytes w (cond (eqb asked 1) (swapped (shiftBy s x)) (shiftBy s x / weight w))) (aligned-by (eqb order 1) w l h e k)
-    ∙ restored-by (eqb asked 1) w (shiftBy s (cond (eqb order 1) (highFirst 0 l) (lowFirst l) * weight w)) k
-    ∙ sym (bytes-turned asked w (shiftBy s (cond (eqb order 1) (highFirst 0 l) (lowFirst l) * weight w) / weight w))
+shifted-is w s order asked l some k h e =
+    let shift = shiftHigh (weight w) s in
+    let n = cond (eqb order 1) (highFirst 0 l) (lowFirst l) in
+    ap (λ (x : ℕ). lowBytes w (cond (eqb asked 1) (swapped (shift x)) (shift x / weight w))) (aligned-by (eqb order 1) w l h e k)
+    ∙ restored-by (eqb asked 1) w (shift (n * weight w)) k
+    ∙ ap (λ (x : ℕ). turned (eqb asked 1) (lowBytes w x)) (high-end false w some k s n)
+    ∙ sym (bytes-turned asked w (shiftBy w s n))
+
+-- An element read in its own order, shifted, and written in the order asked for.
+pub turned-twice : (w : ℕ) (s : Shift) (order asked : ℕ) (l : List ℕ)
+    → turned (eqb asked 1) (lowBytes w (shiftBy w s (lowFirst (turned (eqb order 1) l)))) ≡ shiftedBytes w s order asked l
+unfolding shiftedBytes numberOf
+turned-twice w s order asked l =
+    ap (λ (n : ℕ). turned (eqb asked 1) (lowBytes w (shiftBy w s n))) (read-by (eqb order 1) l)
+    ∙ sym (bytes-turned asked w (shiftBy w s (cond (eqb order 1) (highFirst 0 l) (lowFirst l))))
+  where
+    read-by : (back : Bool) (l : List ℕ) → lowFirst (turned back l) ≡ cond back (highFirst 0 l) (lowFirst l)
+    read-by true l = high-of l
+    read-by false l = refl
+
+-- Of one byte there is no order.
+pub one-byte : (s : Shift) (order asked : ℕ) (l : List ℕ) (r : ℕ) → length l ≡ 1 → r ≡ shiftBy 1 s (getD l 0 0) → r < 256
+    → r ∷ [] ≡ shiftedBytes 1 s order asked l
+unfolding lowFirst lowBytes
+one-byte s order asked l r e q h =
+    let b = getD l 0 0 in
+    let m : r % 256 ≡ r = omega arith in
+    ap (λ (x : ℕ). x ∷ []) (sym m)
+    ∙ either (eqb asked 1) (r % 256)
+    ∙ ap (λ (x : ℕ). turned (eqb asked 1) (lowBytes 1 x)) (q ∙ ap (shiftBy 1 s) (omega arith ∙ ap lowFirst (either (eqb order 1) b)))
+    ∙ ap (λ (x : List ℕ). turned (eqb asked 1) (lowBytes 1 (shiftBy 1 s (lowFirst (turned (eqb order 1) x))))) (array-is 1 l e)
+    ∙ turned-twice 1 s order asked l
+  where
+    either : (back : Bool) (b : ℕ) → b ∷ [] ≡ turned back (b ∷ [])
+    either true b = refl
+    either false b = refl
 
 -- What a function makes of an array's reads.
 pub low-read : (w : ℕ) (b : List ℕ) (v : ℕ) → length b ≡ w → v ≡ lowFirst (reads b 0 0 w) → Octets (reads b 0 0 w)

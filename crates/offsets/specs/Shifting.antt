@@ -10,13 +10,18 @@ use Rattle.raster.specs.Element.{offsetBits}
 use Rattle.raster.specs.Types.{Class, unsigned, signed}
 use Rattle.offsets.specs.declared.shift.Shift.{Shift}
 
--- Of 64 bits.
-unfoldable pub shiftBy : Shift → ℕ → ℕ
-shiftBy s v = (min (s .high) (max (s .low) ((v + s .flip) % 2 ^ 64)) + s .delta) % 2 ^ 64
-
 -- The weight of an element of w bytes at the high end of 64 bits.
 abbrev pub weight : ℕ → ℕ
 weight w = 256 ^ (8 - w)
+
+-- Of a number of w bytes: each field of the shift counts by what stands in its w highest bytes.
+unfoldable pub shiftBy : ℕ → Shift → ℕ → ℕ
+shiftBy w s n =
+    (min (s .high / weight w) (max (s .low / weight w) ((n + s .flip / weight w) % 256 ^ w)) + s .delta / weight w) % 256 ^ w
+
+-- The same of 64 bits, with an element of the weight k at their high end.
+unfoldable pub shiftHigh : ℕ → Shift → ℕ → ℕ
+shiftHigh k s v = (min (s .high) (max (s .low) ((v + s .flip) % 2 ^ 64)) + s .delta / k * k) % 2 ^ 64
 
 -- 64 bits with their bytes reversed.
 unfoldable pub swapped : ℕ → ℕ
@@ -32,7 +37,7 @@ restoredTo asked k r = cond (eqb asked 1) (swapped r) (r / k)
 
 -- Of the bytes of an element.
 unfoldable pub shiftedBytes : ℕ → Shift → ℕ → ℕ → List ℕ → List ℕ
-shiftedBytes w s order asked l = bytesOf asked w (shiftBy s (numberOf order l * weight w) / weight w)
+shiftedBytes w s order asked l = bytesOf asked w (shiftBy w s (numberOf order l))
 
 -- The classes that an offset is added to.
 abbrev pub integer : Bool → Class
@@ -40,4 +45,4 @@ integer isSigned = cond isSigned signed unsigned
 
 -- The shift adds the offset, to every number of w bytes.
 abbrev pub Shifts : Class → ℕ → ℤ → Shift → Type 0
-Shifts class w offset s = (n : ℕ) → n < 256 ^ w → shiftBy s (n * weight w) ≡ offsetBits class w offset n * weight w
+Shifts class w offset s = (n : ℕ) → n < 256 ^ w → shiftBy w s n ≡ offsetBits class w offset n

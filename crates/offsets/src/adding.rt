@@ -1,14 +1,14 @@
 // Rows of elements to which an offset is added.
-use crate::numbers::bytes1;
 use crate::numbers::bytes2;
 use crate::numbers::bytes4;
 use crate::numbers::bytes8;
-use crate::numbers::low1;
 use crate::numbers::low2;
 use crate::numbers::low4;
 use crate::numbers::low8;
 use crate::shift::Shift;
 use crate::shift::converted;
+use crate::shift::shifted_u8;
+use crate::shift::shifted_u16;
 use elements::octets::get1;
 use elements::octets::get2;
 use elements::octets::get4;
@@ -17,23 +17,32 @@ use elements::octets::put1;
 use elements::octets::put2;
 use elements::octets::put4;
 use elements::octets::put8;
+use elements::octets::reverse2;
 use elements::rows::spot;
 ghost use mathlib.Core.Path.{_≡_};
 ghost use Prim.Native.Nat.{_*_};
+ghost use lib.Dec.{eqb};
 ghost use lib.ListN.{length};
-ghost use Rattle.raster.specs.Strided.{Inside, Width, rowOf};
+ghost use Rattle.raster.specs.Strided.{Inside, Width, rowOf, turned};
 ghost use Rattle.offsets.specs.Shifting.{shiftedBytes};
 
+// `order` and `asked` are for the contract alone.
 fn add1(b: [u8; 1], order: u8, asked: u8, s: Shift) -> [u8; 1]
     ensures { λ r. ⌜ r ≡ shiftedBytes 1 s order asked b ⌝ }
 {
-    bytes1(converted(low1(b), 72057594037927936, order, asked, s))
+    [shifted_u8(b[0], s)]
+}
+
+fn turn2(b: [u8; 2], order: u8) -> [u8; 2]
+    ensures { λ r. ⌜ r ≡ turned (eqb order 1) b ⌝ }
+{
+    if order == 1 { reverse2(b) } else { b }
 }
 
 fn add2(b: [u8; 2], order: u8, asked: u8, s: Shift) -> [u8; 2]
     ensures { λ r. ⌜ r ≡ shiftedBytes 2 s order asked b ⌝ }
 {
-    bytes2(converted(low2(b), 281474976710656, order, asked, s))
+    turn2(bytes2(shifted_u16(low2(turn2(b, order)), s)), asked)
 }
 
 fn add4(b: [u8; 4], order: u8, asked: u8, s: Shift) -> [u8; 4]

@@ -13,18 +13,17 @@ fn wide(b: u8) -> u64
     b as u64
 }
 
-pub fn low1(b: [u8; 1]) -> u64
-    ensures { λ r. ⌜ (r ≡ lowFirst b) × Octets b ⌝ }
+fn wide_u16(b: u8) -> u16
+    ensures { λ r. ⌜ (r ≡ b) × (r < 256) ⌝ }
 {
-    let b0 = wide(b[0]);
-    b0
+    b as u16
 }
 
-pub fn low2(b: [u8; 2]) -> u64
+pub fn low2(b: [u8; 2]) -> u16
     ensures { λ r. ⌜ (r ≡ lowFirst b) × Octets b ⌝ }
 {
-    let b0 = wide(b[0]);
-    let b1 = wide(b[1]);
+    let b0 = wide_u16(b[0]);
+    let b1 = wide_u16(b[1]);
     b0 + b1 * 256
 }
 
@@ -59,13 +58,7 @@ pub fn low8(b: [u8; 8]) -> u64
         + b7 * 72057594037927936
 }
 
-pub fn bytes1(v: u64) -> [u8; 1]
-    ensures { λ r. ⌜ r ≡ lowBytes 1 v ⌝ }
-{
-    [(v % 256) as u8]
-}
-
-pub fn bytes2(v: u64) -> [u8; 2]
+pub fn bytes2(v: u16) -> [u8; 2]
     ensures { λ r. ⌜ r ≡ lowBytes 2 v ⌝ }
 {
     let v1 = v / 256;

@@ -1,11 +1,12 @@
 // The offset that is added to an element, as steps that no value of it overflows.
 use crate::numbers::swap;
 ghost use mathlib.Core.Path.{_≡_};
-ghost use Prim.Native.Nat.{_*_, _^_, _<_, _≤_, min, max};
-ghost use Rattle.offsets.specs.Shifting.{shiftBy, alignedFrom, restoredTo};
+ghost use Prim.Native.Nat.{_*_, _/_, _^_, _<_, _≤_, min, max};
+ghost use Rattle.offsets.specs.Shifting.{shiftBy, shiftHigh, alignedFrom, restoredTo};
 
 // For elements whose bytes stand at the high end of 64 bits: `flip` is added, modulo 2^64, so that signed values stand in
-// order; then the value is held between `low` and `high`; then `delta` is added, modulo 2^64.
+// order; then the value is held between `low` and `high`; then `delta` is added, modulo 2^64. Elements of one and two bytes
+// are shifted as numbers of 8 and 16 bits, so that the compiler takes several at once.
 pub struct Shift {
     pub flip: u64,
     pub low: u64,
@@ -13,7 +14,7 @@ pub struct Shift {
     pub delta: u64,
 }
 
-fn between(v: u64, low: u64, high: u64) -> u64
+fn between_u8(v: u8, low: u8, high: u8) -> u8
     ensures { λ r. ⌜ r ≡ min high (max low v) ⌝ }
 {
     let mut c = v;
@@ -26,12 +27,69 @@ fn between(v: u64, low: u64, high: u64) -> u64
     c
 }
 
-fn shifted(v: u64, s: Shift) -> u64
-    ensures { λ r. ⌜ r ≡ shiftBy s v ⌝ }
+fn between_u16(v: u16, low: u16, high: u16) -> u16
+    ensures { λ r. ⌜ r ≡ min high (max low v) ⌝ }
+{
+    let mut c = v;
+    if c < low {
+        c = low;
+    }
+    if high < c {
+        c = high;
+    }
+    c
+}
+
+fn between_u64(v: u64, low: u64, high: u64) -> u64
+    ensures { λ r. ⌜ r ≡ min high (max low v) ⌝ }
+{
+    let mut c = v;
+    if c < low {
+        c = low;
+    }
+    if high < c {
+        c = high;
+    }
+    c
+}
+
+// The highest byte, and the two highest.
+fn top_u8(v: u64) -> u8
+    ensures { λ r. ⌜ r ≡ v / 2 ^ 56 ⌝ }
+{
+    (v / 72057594037927936) as u8
+}
+
+fn top_u16(v: u64) -> u16
+    ensures { λ r. ⌜ r ≡ v / 2 ^ 48 ⌝ }
+{
+    (v / 281474976710656) as u16
+}
+
+pub fn shifted_u8(n: u8, s: Shift) -> u8
+    ensures { λ r. ⌜ r ≡ shiftBy 1 s n ⌝ }
+{
+    let b = std::num::wrapping_add_u8(n, top_u8(s.flip));
+    let c = between_u8(b, top_u8(s.low), top_u8(s.high));
+    std::num::wrapping_add_u8(c, top_u8(s.delta))
+}
+
+pub fn shifted_u16(n: u16, s: Shift) -> u16
+    ensures { λ r. ⌜ r ≡ shiftBy 2 s n ⌝ }
+{
+    let b = std::num::wrapping_add_u16(n, top_u16(s.flip));
+    let c = between_u16(b, top_u16(s.low), top_u16(s.high));
+    std::num::wrapping_add_u16(c, top_u16(s.delta))
+}
+
+// An element of the weight k at the high end.
+fn shifted(v: u64, k: u64, s: Shift) -> u64
+    requires { ⌜ 0 < k ⌝ }
+    ensures { λ r. ⌜ r ≡ shiftHigh k s v ⌝ }
 {
     let b = std::num::wrapping_add_u64(v, s.flip);
-    let c = between(b, s.low, s.high);
-    std::num::wrapping_add_u64(c, s.delta)
+    let c = between_u64(b, s.low, s.high);
+    std::num::wrapping_add_u64(c, s.delta / k * k)
 }
 
 // An element that was read low byte first, at the high end of 64 bits in its own order; `k` is its weight there.
@@ -52,7 +110,7 @@ fn restored(v: u64, k: u64, asked: u8) -> u64
 // The number of an element's bytes, low byte first, to that of the bytes to be written.
 pub fn converted(x: u64, k: u64, order: u8, asked: u8, s: Shift) -> u64
     requires { ⌜ (0 < k) × (x * k < 2 ^ 64) ⌝ }
-    ensures { λ r. ⌜ r ≡ restoredTo asked k (shiftBy s (alignedFrom order k x)) ⌝ }
+    ensures { λ r. ⌜ r ≡ restoredTo asked k (shiftHigh k s (alignedFrom order k x)) ⌝ }
 {
-    restored(shifted(aligned(x, k, order), s), k, asked)
+    restored(shifted(aligned(x, k, order), k, s), k, asked)
 }

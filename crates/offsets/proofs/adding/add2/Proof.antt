@@ -1,31 +1,50 @@
 -- `offsets::adding::add2` meets its contract.
 use mathlib.Core.Path.{ap, _∙_}
+use mathlib.Core.List.{List}
 use Prim.Native.Nat.{ℕ}
-use native.Mathlib.Omega.{arith}
-use Rattle.raster.specs.Bytes.{lowBytes}
-use Rattle.offsets.specs.Shifting.{shiftBy, alignedFrom, restoredTo}
-use Rattle.offsets.proofs.Swaps.{shifted-is, element-fits}
+use lib.Dec.{eqb}
+use Rattle.raster.specs.Bytes.{lowFirst, lowBytes}
+use Rattle.raster.specs.Strided.{turned}
+use Rattle.offsets.specs.Shifting.{shiftBy}
+use Rattle.offsets.proofs.Swaps.{turned-twice}
 use borrow.Author.Needs.{needs}
 use Rattle.offsets.proofs.adding.add2.Statement.{statement}
 use Rattle.offsets.proofs.adding.add2.Tie as tie
 
+turn2-requires : tie.Need-turn2-requires
+turn2-requires c κs = search needs
+
 low2-requires : tie.Need-low2-requires
 low2-requires c κs = search needs
 
-converted-requires : tie.Need-converted-requires
-converted-requires c κs = (omega arith, element-fits 2 (c .before .args .b) _ (omega arith) (omega arith) (search needs) (c .low2 .ensures))
+shifted-u16-requires : tie.Need-shifted-u16-requires
+shifted-u16-requires c κs = search needs
 
 bytes2-requires : tie.Need-bytes2-requires
 bytes2-requires c κs = search needs
 
+turn2-requires-2 : tie.Need-turn2-requires-2
+turn2-requires-2 c κs = search needs
+
 returns : tie.Need-returns
 returns c =
-    let l = c .before .before in
-    let a = l .before .args in
-    c .bytes2 .ensures
+    let shift = c .before .before in
+    let low = shift .before in
+    let a = low .before .before .args in
+    c .turn22 .ensures
+    ∙ ap (turned (eqb (a .asked) 1))
+    (c .before .bytes2 .ensures
     ∙ ap (lowBytes 2)
-    (c .before .converted .ensures ∙ ap (λ (x : ℕ). restoredTo (a .asked) 281474976710656 (shiftBy (a .s) (alignedFrom (a .order) 281474976710656 x))) (l .low2 .ensures .0))
-    ∙ shifted-is 2 (a .s) (a .order) (a .asked) (a .b) (omega arith) (l .low2 .ensures .1) (search needs)
+    (shift .shifted-u16 .ensures ∙ ap (shiftBy 2 (a .s)) (low .low2 .ensures .0 ∙ ap lowFirst (low .before .turn2 .ensures))))
+    ∙ turned-twice 2 (a .s) (a .order) (a .asked) (a .b)
 
 pub add2-spec : {M : Type 1} → statement M
-add2-spec = tie.close (tie.spec low2-requires converted-requires bytes2-requires returns)
+add2-spec =
+    tie.close
+    (tie.spec
+    turn2-requires
+    low2-requires
+    shifted-u16-requires
+    bytes2-requires
+    turn2-requires-2
+    returns)

@@ -3,7 +3,7 @@ use mathlib.Core.Path.{ap, _∙_}
 use Prim.Native.Nat.{ℕ}
 use native.Mathlib.Omega.{arith}
 use Rattle.raster.specs.Bytes.{lowBytes}
-use Rattle.offsets.specs.Shifting.{shiftBy, alignedFrom, restoredTo}
+use Rattle.offsets.specs.Shifting.{shiftHigh, alignedFrom, restoredTo}
 use Rattle.offsets.proofs.Swaps.{shifted-is, element-fits}
 use borrow.Author.Needs.{needs}
 use Rattle.offsets.proofs.adding.add4.Statement.{statement}
@@ -24,8 +24,8 @@ returns c =
     let a = l .before .args in
     c .bytes4 .ensures
     ∙ ap (lowBytes 4)
-    (c .before .converted .ensures ∙ ap (λ (x : ℕ). restoredTo (a .asked) 4294967296 (shiftBy (a .s) (alignedFrom (a .order) 4294967296 x))) (l .low4 .ensures .0))
-    ∙ shifted-is 4 (a .s) (a .order) (a .asked) (a .b) (omega arith) (l .low4 .ensures .1) (search needs)
+    (c .before .converted .ensures ∙ ap (λ (x : ℕ). restoredTo (a .asked) 4294967296 (shiftHigh 4294967296 (a .s) (alignedFrom (a .order) 4294967296 x))) (l .low4 .ensures .0))
+    ∙ shifted-is 4 (a .s) (a .order) (a .asked) (a .b) (omega arith) (omega arith) (l .low4 .ensures .1) (search needs)
 
 pub add4-spec : {M : Type 1} → statement M
 add4-spec = tie.close (tie.spec low4-requires converted-requires bytes4-requires returns)

@@ -3,7 +3,7 @@ use mathlib.Core.Path.{ap, _∙_}
 use Prim.Native.Nat.{ℕ}
 use native.Mathlib.Omega.{arith}
 use Rattle.raster.specs.Bytes.{lowBytes}
-use Rattle.offsets.specs.Shifting.{shiftBy, alignedFrom, restoredTo}
+use Rattle.offsets.specs.Shifting.{shiftHigh, alignedFrom, restoredTo}
 use Rattle.offsets.proofs.Swaps.{shifted-is, element-fits}
 use borrow.Author.Needs.{needs}
 use Rattle.offsets.proofs.adding.add8.Statement.{statement}
@@ -24,8 +24,8 @@ returns c =
     let a = l .before .args in
     c .bytes8 .ensures
     ∙ ap (lowBytes 8)
-    (c .before .converted .ensures ∙ ap (λ (x : ℕ). restoredTo (a .asked) 1 (shiftBy (a .s) (alignedFrom (a .order) 1 x))) (l .low8 .ensures .0))
-    ∙ shifted-is 8 (a .s) (a .order) (a .asked) (a .b) (omega arith) (l .low8 .ensures .1) (search needs)
+    (c .before .converted .ensures ∙ ap (λ (x : ℕ). restoredTo (a .asked) 1 (shiftHigh 1 (a .s) (alignedFrom (a .order) 1 x))) (l .low8 .ensures .0))
+    ∙ shifted-is 8 (a .s) (a .order) (a .asked) (a .b) (omega arith) (omega arith) (l .low8 .ensures .1) (search needs)
 
 pub add8-spec : {M : Type 1} → statement M
 add8-spec = tie.close (tie.spec low8-requires converted-requires bytes8-requires returns)

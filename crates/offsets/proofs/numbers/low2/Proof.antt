@@ -6,17 +6,17 @@ use borrow.Author.Needs.{needs}
 use Rattle.offsets.proofs.numbers.low2.Statement.{statement}
 use Rattle.offsets.proofs.numbers.low2.Tie as tie
 
-array-read-wide : tie.Need-array-read-wide
-array-read-wide c = search needs
+array-read-wide-u16 : tie.Need-array-read-wide-u16
+array-read-wide-u16 c = search needs
 
-wide-requires : tie.Need-wide-requires
-wide-requires c κs = search needs
+wide-u16-requires : tie.Need-wide-u16-requires
+wide-u16-requires c κs = search needs
 
-array-read-wide-2 : tie.Need-array-read-wide-2
-array-read-wide-2 c = search needs
+array-read-wide-u16-2 : tie.Need-array-read-wide-u16-2
+array-read-wide-u16-2 c = search needs
 
-wide-requires-2 : tie.Need-wide-requires-2
-wide-requires-2 c κs = search needs
+wide-u16-requires-2 : tie.Need-wide-u16-requires-2
+wide-u16-requires-2 c κs = search needs
 
 mul-result : tie.Need-mul-result
 mul-result c = search needs
@@ -32,10 +32,10 @@ pub low2-spec : {M : Type 1} → statement M
 low2-spec =
     tie.close
     (tie.spec
-    array-read-wide
-    wide-requires
-    array-read-wide-2
-    wide-requires-2
+    array-read-wide-u16
+    wide-u16-requires
+    array-read-wide-u16-2
+    wide-u16-requires-2
     mul-result
     add-result
     returns)

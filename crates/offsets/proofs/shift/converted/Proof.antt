@@ -1,6 +1,6 @@
 -- `offsets::shift::converted` meets its contract.
 use mathlib.Core.Path.{ap, _∙_}
-use Rattle.offsets.specs.Shifting.{shiftBy, restoredTo}
+use Rattle.offsets.specs.Shifting.{shiftHigh, restoredTo}
 use borrow.Author.Needs.{needs}
 use Rattle.offsets.proofs.shift.converted.Statement.{statement}
 use Rattle.offsets.proofs.shift.converted.Tie as tie
@@ -17,7 +17,7 @@ restored-requires c κs = search needs
 returns : tie.Need-returns
 returns c =
     let a = c .before .before .before .args in
-    c .restored .ensures ∙ ap (restoredTo (a .asked) (a .k)) (c .before .shifted .ensures ∙ ap (shiftBy (a .s)) (c .before .before .aligned .ensures))
+    c .restored .ensures ∙ ap (restoredTo (a .asked) (a .k)) (c .before .shifted .ensures ∙ ap (shiftHigh (a .k) (a .s)) (c .before .before .aligned .ensures))
 
 pub converted-spec : {M : Type 1} → statement M
 converted-spec = tie.close (tie.spec aligned-requires shifted-requires restored-requires returns)

@@ -1,8 +1,8 @@
--- `offsets::shift::between` meets its contract.
+-- `offsets::shift::between_u8` meets its contract.
 use mathlib.Core.Logic.{⊎-elim}
 use native.Mathlib.Omega.{arith}
-use Rattle.offsets.proofs.shift.between.Statement.{statement}
-use Rattle.offsets.proofs.shift.between.Tie as tie
+use Rattle.offsets.proofs.shift.between_u8.Statement.{statement}
+use Rattle.offsets.proofs.shift.between_u8.Tie as tie
 
 returns : tie.Need-returns
 returns c = ⊎-elim (λ w. omega arith) (λ w. omega arith) (c .before .if1 .came)
@@ -10,5 +10,5 @@ returns c = ⊎-elim (λ w. omega arith) (λ w. omega arith) (c .before .if1 .ca
 returns-2 : tie.Need-returns-2
 returns-2 c = ⊎-elim (λ w. omega arith) (λ w. omega arith) (c .before .if1 .came)
 
-pub between-spec : {M : Type 1} → statement M
-between-spec = tie.close (tie.spec returns returns-2)
+pub between-u8-spec : {M : Type 1} → statement M
+between-u8-spec = tie.close (tie.spec returns returns-2)
