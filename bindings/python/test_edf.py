@@ -3,6 +3,7 @@
 import ctypes
 import glob
 import os
+import pathlib
 import pickle
 import subprocess
 import sys
@@ -211,8 +212,9 @@ class Blocks(unittest.TestCase):
     def test_missing_and_closed(self):
         with self.assertRaises(FileNotFoundError):
             edf.open(fixture("no such file"))
-        with self.assertRaises(IsADirectoryError):
+        with self.assertRaises(IsADirectoryError) as caught:
             edf.open(FIXTURES)
+        self.assertEqual(caught.exception.filename, FIXTURES)
         with edf.open(fixture("raster_7.edf")) as file:
             pass
         for call in (file.header, file.describe, file.array):
@@ -234,11 +236,27 @@ class Blocks(unittest.TestCase):
         os.close(writing)
         self.assertEqual(edf.open("/dev/fd/%d" % reading).pixel(0, 2, 1), 6)
         os.close(reading)
+        with tempfile.TemporaryDirectory() as folder:
+            pipe = os.path.join(folder, "pipe")
+            os.mkfifo(pipe)
+            writer = threading.Thread(target=pathlib.Path(pipe).write_bytes, args=[data])
+            writer.start()
+            self.assertEqual(edf.open(pipe).pixel(0, 2, 1), 6)
+            writer.join()
         twice = bytes(byte for byte in data for _ in range(2))
         for same in (data, bytearray(data), memoryview(data), memoryview(bytearray(data)), memoryview(twice)[::2]):
             self.assertEqual(edf.File(same).pixel(0, 2, 1), 6)
         with self.assertRaises(TypeError):
             edf.File("text")
+
+    def test_descriptors_are_closed(self):
+        before = os.listdir("/dev/fd")
+        for name in ("raster_7.edf", "nul_in_header.edf", "no such file", "."):
+            try:
+                edf.open(fixture(name)).close()
+            except (edf.EdfError, OSError):
+                pass
+        self.assertEqual(os.listdir("/dev/fd"), before)
 
     def test_bytes_live_as_long_as_the_file(self):
         with open(fixture("raster_7.edf"), "rb") as stream:
@@ -253,11 +271,58 @@ class Blocks(unittest.TestCase):
                 if file.header(turn % 10)["EDF_DataBlockID"] != "%d.Image.Psd" % (turn % 10):
                     wrong.append(turn)
 
-        threads = [threading.Thread(target=read) for _ in range(4)]
+        self.run_threads(read)
+        self.assertEqual(wrong, [])
+
+    def run_threads(self, *targets):
+        """Runs four threads of each target at once."""
+        threads = [threading.Thread(target=target) for target in targets for _ in range(4)]
         for thread in threads:
             thread.start()
         for thread in threads:
             thread.join()
+
+    def test_threads_with_one_file_and_with_files_of_their_own(self):
+        names, wrong = ["fabio_multi_10.edf", "raster_7.edf", "silx_3d_uint16.edf", "general_defaults.edf"], []
+        files = [edf.open(fixture(name)) for name in names]
+
+        def answers(file):
+            last = len(file) - 1
+            return file.blocks, file.describe(last), bytes(file.array(last)), file.pixel(last, 1)
+
+        expected = [answers(edf.open(fixture(name))) for name in names]
+
+        def read(of):
+            for turn in range(200):
+                try:
+                    if answers(of(turn % 4)) != expected[turn % 4]:
+                        wrong.append(turn)
+                except Exception as error:
+                    wrong.append(error)
+
+        self.run_threads(lambda: read(lambda n: files[n]), lambda: read(lambda n: edf.open(fixture(names[n]))))
+        self.assertEqual(wrong, [])
+
+    def test_closing_while_another_thread_reads(self):
+        expected, wrong = bytes(edf.open(fixture("raster_7.edf")).array(0)), []
+        for _ in range(50):
+            file = edf.open(fixture("raster_7.edf"))
+
+            def read():
+                try:
+                    while True:
+                        if bytes(file.array(0)) != expected:
+                            wrong.append("array")
+                except Exception as error:
+                    if str(error) != "the file is closed":
+                        wrong.append(error)
+
+            threads = [threading.Thread(target=read) for _ in range(2)]
+            for thread in threads:
+                thread.start()
+            file.close()
+            for thread in threads:
+                thread.join()
         self.assertEqual(wrong, [])
 
 
