@@ -364,7 +364,9 @@ def _described(place):
 
 def _read(place, order, address, capacity):
     """Writes the array of a block to an address; the answer is the number of its bytes."""
-    length = c_size_t()
+    start, size, length = place[0], place[1], c_size_t()
+    if address < start + size and start < address + capacity:
+        raise ValueError("the array would be written over the bytes of its file")
     _answered(place, _library.edf_read_array, order, address, capacity, byref(length))
     return length.value
 

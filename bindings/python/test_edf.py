@@ -344,6 +344,17 @@ class Arrays(unittest.TestCase):
             with self.assertRaises(ValueError):
                 file.read_into(0, out, "MiddleByteFirst")
 
+    def test_read_into_the_file_itself(self):
+        with open(fixture("raster_7.edf"), "rb") as stream:
+            data = bytearray(stream.read())
+        before = bytes(data)
+        with edf.File(data) as file:
+            for out in (data, memoryview(data)[:12], memoryview(data)[-12:]):
+                with self.assertRaises(ValueError) as caught:
+                    file.read_into(0, out)
+                self.assertEqual(str(caught.exception), "the array would be written over the bytes of its file")
+        self.assertEqual(data, before)
+
     def test_empty_array(self):
         body = b"{\nSize = 0 ;\n"
         file = edf.File(body + b" " * (510 - len(body)) + b"}\n")
