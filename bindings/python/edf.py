@@ -7,6 +7,7 @@
             print(block.number, block.identity)
         print(file.header(0)["Title"])      # header(n): a mapping from keys to text
         image = file.array(0)               # a numpy array where numpy is installed, else bytes
+        file.array(0, out=image)            # the same into an array that is there
         print(file.pixel(0, 2, 1))          # index 1 is 2, index 2 is 1
 
     data = edf.write(image, title="a copy") # the bytes of a file of one block
@@ -481,17 +482,26 @@ class File:
         words = _DATA_TYPES[f.datatype], _BYTE_ORDERS[f.byteorder], "None"
         return Description(*words, (f.dim1, f.dim2, f.dim3)[: f.n], f.configuration, f.orientation, f.offset)
 
-    def array(self, block):
+    def array(self, block, out=None):
         """The array of a block, in raster configuration 1 and with its value offset added: a numpy array of this machine's byte
-        order, shape (.., Dim_2, Dim_1); where numpy is not installed, bytes of this machine's byte order."""
+        order, shape (.., Dim_2, Dim_1); where numpy is not installed, bytes of this machine's byte order. It is put into `out` where
+        that is given: a numpy array of just this type, byte order and shape, C-contiguous and writable."""
         place, numpy = self._place(block), _numpy()
+        if numpy is None and out is not None:
+            raise ValueError("out is for numpy arrays, and numpy is not installed: read_into takes other buffers")
         f = _described(place)
         if numpy is None:
-            out = bytearray(max(f.dim1 * f.dim2 * f.dim3 * _WIDTHS[f.datatype], 1))
-            owner = c_char.from_buffer(out)
-            length = _read(place, _NATIVE_ORDER, ctypes.addressof(owner), len(out))
-            return bytes(memoryview(out)[:length])
-        out = numpy.empty((f.dim3, f.dim2, f.dim1)[3 - f.n :], _NUMPY_TYPES[f.datatype])
+            data = bytearray(max(f.dim1 * f.dim2 * f.dim3 * _WIDTHS[f.datatype], 1))
+            owner = c_char.from_buffer(data)
+            length = _read(place, _NATIVE_ORDER, ctypes.addressof(owner), len(data))
+            return bytes(memoryview(data)[:length])
+        shape, kind = (f.dim3, f.dim2, f.dim1)[3 - f.n :], _NUMPY_TYPES[f.datatype]
+        if out is None:
+            out = numpy.empty(shape, kind)
+        elif not (isinstance(out, numpy.ndarray) and out.shape == shape and out.dtype == kind and out.flags.c_contiguous
+                  and out.flags.writeable):
+            raise ValueError("out must be a numpy array of shape %s, type %s and this machine's byte order, C-contiguous and writable"
+                             % (shape, kind[1:]))
         owner = _Front.from_buffer(out)
         _read(place, _NATIVE_ORDER, ctypes.addressof(owner), out.nbytes)
         return out

@@ -332,6 +332,10 @@ class Arrays(unittest.TestCase):
             expected = b"".join(n.to_bytes(2, sys.byteorder) for n in (1, 2, 3, 4, 5, 6))
             self.assertEqual(file.array(0), expected)
             self.assertIsInstance(file.array(0), bytes)
+            for out in (bytearray(12), []):
+                with self.assertRaises(ValueError) as caught:
+                    file.array(0, out=out)
+                self.assertIn("numpy is not installed", str(caught.exception))
 
     def test_read_into(self):
         with edf.open(fixture("raster_7.edf")) as file:
@@ -380,6 +384,55 @@ class Arrays(unittest.TestCase):
             self.assertEqual(array.shape, (2, 3, 4))
             self.assertEqual(array[1, 2, 3], file.pixel(0, 3, 2, 1))
             self.assertEqual(file.pixel(numpy.int64(0), numpy.int64(3), numpy.uint8(2), 1), array[1, 2, 3])
+
+    @with_numpy
+    def test_array_into_one_that_is_there(self):
+        with edf.open(fixture("raster_7.edf")) as file:
+            stack = numpy.full((3, 2, 3), 9, "uint16")
+            unaligned = numpy.zeros(13, "uint8")[1:].view("uint16").reshape(2, 3)
+            for out in (numpy.zeros((2, 3), "uint16"), stack[1], unaligned, numpy.zeros((1, 2, 3), "uint16")[0]):
+                self.assertIs(file.array(0, out=out), out)
+                self.assertEqual(out.tolist(), [[1, 2, 3], [4, 5, 6]])
+            self.assertEqual([stack[0].tolist(), stack[2].tolist()], [[[9, 9, 9]] * 2] * 2)
+            read_only = numpy.zeros((2, 3), "uint16")
+            read_only.flags.writeable = False
+            wrong = {"shape": numpy.zeros((3, 2), "uint16"), "more": numpy.zeros((3, 3), "uint16"), "dims": numpy.zeros(6, "uint16"),
+                     "dtype": numpy.zeros((2, 3), "int16"), "width": numpy.zeros((2, 3), "uint32"),
+                     "byte order": numpy.zeros((2, 3), numpy.dtype("uint16").newbyteorder()),
+                     "turned": numpy.zeros((3, 2), "uint16").T, "scattered": numpy.zeros((2, 6), "uint16")[:, ::2],
+                     "read-only": read_only}
+            for name, out in wrong.items():
+                with self.assertRaises(ValueError, msg=name) as caught:
+                    file.array(0, out=out)
+                self.assertEqual(str(caught.exception), "out must be a numpy array of shape (2, 3), type u2 and this machine's byte "
+                                 "order, C-contiguous and writable", name)
+                self.assertFalse(out.any(), name)
+            for out in (bytearray(12), [[0] * 3] * 2, "uint16", 0):
+                self.assertRaises(ValueError, file.array, 0, out)
+        with self.assertRaises(ValueError):
+            file.array(0, out=stack[0])
+        with edf.open(fixture("order_unknown.edf")) as refused, self.assertRaises(edf.EdfError):
+            refused.array(0, out=stack[0])
+        self.assertEqual(stack[0].tolist(), [[9, 9, 9]] * 2)
+
+    @with_numpy
+    def test_array_into_one_of_each_type(self):
+        for letter in "BbHhIifQqd":
+            for shape in ((5,), (3, 5), (2, 3, 5)):
+                array = (numpy.arange(numpy.prod(shape)) * 7 - 20).astype(letter).reshape(shape)
+                out = numpy.zeros(shape, letter)
+                self.assertIs(edf.File(edf.write(array)).array(0, out=out), out)
+                self.assertTrue((out == array).all(), (letter, shape))
+        file = edf.File(b"{\nSize = 0 ;\n".ljust(510) + b"}\n")
+        out = numpy.zeros(0, file.array(0).dtype)
+        self.assertIs(file.array(0, out=out), out)
+
+    @with_numpy
+    def test_array_into_the_file_itself(self):
+        data = bytearray(edf.write(numpy.arange(6, dtype="uint8")))
+        with self.assertRaises(ValueError) as caught:
+            edf.File(data).array(0, out=numpy.frombuffer(data, "uint8", 6, 512))
+        self.assertEqual(str(caught.exception), "the array would be written over the bytes of its file")
 
     @with_numpy
     def test_read_into_a_stack(self):
