@@ -111,8 +111,8 @@ def numpy_alone(path):
 def stored_image(path, data_type, low_first, configuration=1, offset=0, side=2048):
     """Writes a file of one image of side by side elements: its numpy type, and where its data starts."""
     stored = numpy.dtype(("<" if low_first else ">") + KINDS[data_type])
-    statements = [("ByteOrder", "LowByteFirst" if low_first else "HighByteFirst"), ("DataType", data_type), ("Dim_1", side), ("Dim_2", side),
-                  ("Size", side * side * stored.itemsize)]
+    statements = [("ByteOrder", "LowByteFirst" if low_first else "HighByteFirst"), ("DataType", data_type), ("Dim_1", side),
+                  ("Dim_2", side), ("Size", side * side * stored.itemsize)]
     if configuration != 1:
         statements.append(("DataRasterConfiguration", configuration))
     if offset:

@@ -42,23 +42,14 @@ _HEADER_CAPACITY = 4096  # more than the header and the filling of a written fil
 # ---- The library
 
 
-class _Table(ctypes.Structure):
-    """What edf_open sets."""
+# Numbers that calls set, each in eight bytes; the last is the position of an error.
+_ROW = struct.Struct("=4QqQq")
+_TABLE_LENGTH = 7 * MOST_BLOCKS
+_Table = c_uint64 * (_TABLE_LENGTH + 2)  # of edf_open: the rows, and how many of them are blocks
+_FIELDS = struct.Struct("=B7xB7xB7xB7x3QI4xI4xqQ")
+_Fields = c_uint64 * (_FIELDS.size // 8)  # of edf_describe, in its order
+_Length = c_uint64 * 2  # of edf_read_array
 
-    _fields_ = [("rows", c_uint64 * (7 * MOST_BLOCKS)), ("count", c_size_t), ("position", c_size_t)]
-
-
-class _Fields(ctypes.Structure):
-    """What edf_describe sets, in its order."""
-
-    _fields_ = [("datatype", c_uint8), ("byteorder", c_uint8), ("compression", c_uint8), ("n", c_uint8), ("dim1", c_size_t),
-                ("dim2", c_size_t), ("dim3", c_size_t), ("configuration", c_uint32), ("orientation", c_uint32), ("offset", c_int64),
-                ("position", c_size_t)]
-
-
-_ROW = struct.Struct("=4QqQq")  # a row of the table
-_COUNT, _POSITION = _Table.count.offset, _Table.position.offset
-_FIELD_OFFSETS = [getattr(_Fields, name).offset for name, _ in _Fields._fields_]
 _Front = c_char * 0  # the front of a buffer, which may be empty
 
 
@@ -80,8 +71,8 @@ def _load():
         "edf_keywords": bytes_in + buffer_out,
         "edf_escape": bytes_in + buffer_out,
         "edf_unescape": bytes_in + buffer_out,
-        "edf_describe": bytes_in + [c_size_t] + [c_void_p] * len(_Fields._fields_),
-        "edf_read_array": bytes_in + [c_size_t, c_uint8] + buffer_out,
+        "edf_describe": bytes_in + [c_size_t] + [c_void_p] * len(_Fields()),
+        "edf_read_array": bytes_in + [c_size_t, c_uint8, c_void_p, c_size_t, c_void_p, c_void_p],
         "edf_read_pixel": bytes_in + [c_size_t] * 4
         + [POINTER(c_uint8), POINTER(c_uint64), POINTER(c_int64), POINTER(c_float), POINTER(c_double), number_out],
         "edf_write": [c_int64, c_uint8, c_int64, c_uint8, c_uint8, c_uint8, c_size_t, c_size_t, c_size_t, c_uint32]
@@ -155,7 +146,7 @@ _DATA_TYPES = [_library.edf_datatype_name(n).decode("ascii") for n in range(11)]
 _BYTE_ORDERS = [_library.edf_byteorder_name(n).decode("ascii") for n in range(3)]
 _WIDTHS = [_library.edf_datatype_width(n) for n in range(11)]
 _KINDS = " uiuiuifuif"  # numpy's letter for each data type
-_NUMPY_TYPES = ["=%s%d" % pair for pair in zip(_KINDS, _WIDTHS)]  # of this machine's byte order
+_NUMPY_TYPES = ["=%s%d" % pair for pair in zip(_KINDS, _WIDTHS)]  # numpy's name for each, in this machine's byte order
 _INSTANCES = ["", "Psd", "Error"]
 _NATIVE_ORDER = 1 if sys.byteorder == "big" else 2
 _NATIVE = _BYTE_ORDERS[_NATIVE_ORDER]
@@ -330,13 +321,14 @@ class Header(collections.abc.Mapping):
 
 
 def _opened(address, length):
-    """The rows of a file's blocks, one after another."""
+    """The rows of a file's blocks."""
     table = _Table()
     rows = ctypes.addressof(table)
-    code = _library.edf_open(address, length, rows, 7 * MOST_BLOCKS, rows + _COUNT, rows + _POSITION)
+    count = rows + 8 * _TABLE_LENGTH
+    code = _library.edf_open(address, length, rows, _TABLE_LENGTH, count, count + 8)
     if code:
-        raise EdfError(code, table.position)
-    return bytes(table)[: table.count * _ROW.size]
+        raise EdfError(code, table[-1])
+    return [_ROW.unpack_from(table, number * _ROW.size) for number in range(table[-2])]
 
 
 def _block(number, start, header_length, data_length, kind, sequence, instance, memory):
@@ -354,22 +346,27 @@ def _answered(place, call, *arguments):
 
 
 def _described(place):
-    """The fields of the description of a block's array."""
+    """What edf_describe says about a block's array, in its order."""
+    address, length, number, _start, _owner = place
     fields = _Fields()
     first = ctypes.addressof(fields)
-    code = _library.edf_describe(*place[:3], *[first + offset for offset in _FIELD_OFFSETS])
+    code = _library.edf_describe(address, length, number, *range(first, first + _FIELDS.size, 8))
     if code:
-        raise EdfError(code, fields.position)
-    return fields
+        raise EdfError(code, fields[-1])
+    return _FIELDS.unpack(fields)
 
 
-def _read(place, order, address, capacity):
+def _read(place, order, out, capacity):
     """Writes the array of a block to an address; the answer is the number of its bytes."""
-    start, size, length = place[0], place[1], c_size_t()
-    if address < start + size and start < address + capacity:
+    address, length, number, _start, _owner = place
+    if out < address + length and address < out + capacity:
         raise ValueError("the array would be written over the bytes of its file")
-    _answered(place, _library.edf_read_array, order, address, capacity, byref(length))
-    return length.value
+    written = _Length()
+    first = ctypes.addressof(written)
+    code = _library.edf_read_array(address, length, number, order, out, capacity, first, first + 8)
+    if code:
+        raise EdfError(code, written[-1])
+    return written[0]
 
 
 class File:
@@ -379,15 +376,14 @@ class File:
     def __init__(self, data):
         self._bytes = address, length, _owner = _lent(data)
         self._rows = _opened(address, length)
-        self._count = len(self._rows) // _ROW.size
-        self._parts = {0: (0, length, 0)} if self._count == 1 else {}
+        self._parts = {} if len(self._rows) > 1 else {0: (0, length, 0)}
         self._blocks = None
 
     @property
     def blocks(self):
         """The blocks of the file, in order."""
         if self._blocks is None:
-            self._blocks = tuple(_block(number, *row) for number, row in enumerate(_ROW.iter_unpack(self._rows)))
+            self._blocks = tuple(_block(number, *row) for number, row in enumerate(self._rows))
         return self._blocks
 
     def close(self):
@@ -401,18 +397,22 @@ class File:
         self.close()
 
     def __len__(self):
-        return self._count
-
-    def _row(self, number):
-        return _ROW.unpack_from(self._rows, number * _ROW.size)
+        return len(self._rows)
 
     def _has_general_block(self):
-        return self._row(0)[3] == 0
+        return self._rows[0][3] == 0
+
+    def _number(self, block):
+        """The number of a block that there is: ctypes would cut others to their low bits."""
+        number = operator.index(block)
+        if not 0 <= number < len(self._rows):
+            raise EdfError(Code.NOT_FOUND, 0)
+        return number
 
     def _place(self, block):
         """Where a call on a block looks, as little of the file as answers the same: address, length, the block's number there, the
         start in the file, and what keeps the bytes there."""
-        number = _whole(block, 0, self._count - 1, Code.NOT_FOUND)
+        number = self._number(block)
         address, length, owner = self._open_bytes()
         start, length, number = self._parts.get(number) or self._part(address, length, number)
         return address + start, length, number, start, owner
@@ -422,11 +422,11 @@ class File:
         there. A call judges the whole file that it gets, so that with the whole file each would cost the time of all headers.
         A block of a file without a general block is looked at by itself, if the library opens its bytes alone as one block with
         the same lengths, kind and identity: its answers then hang on the same header and the same data."""
-        part, row = (0, length, number), self._row(number)
+        part, row = (0, length, number), self._rows[number]
         start, size = row[0], row[1] + row[2]
         if not self._has_general_block():
             try:
-                if _opened(address + start, size) == _ROW.pack(0, *row[1:]):
+                if _opened(address + start, size) == [(0,) + row[1:]]:
                     part = start, size, 0
             except EdfError:
                 pass
@@ -441,13 +441,13 @@ class File:
 
     def header(self, block):
         """The keywords of a block, a mapping from keys to text."""
-        number = _whole(block, 0, self._count - 1, Code.NOT_FOUND)
+        number = self._number(block)
         general = self._keywords(0) if number != 0 and self._has_general_block() else {}
         return Header(self._keywords(number), general)
 
     def _keywords(self, number):
         """The keywords of a block's own header."""
-        (address, _length, _owner), row = self._open_bytes(), self._row(number)
+        (address, _length, _owner), row = self._open_bytes(), self._rows[number]
         return _keywords(address + row[0], row[1])
 
     def part(self, offset, length):
@@ -478,9 +478,9 @@ class File:
 
     def describe(self, block):
         """The description of a block's array."""
-        f = _described(self._place(block))
-        words = _DATA_TYPES[f.datatype], _BYTE_ORDERS[f.byteorder], "None"
-        return Description(*words, (f.dim1, f.dim2, f.dim3)[: f.n], f.configuration, f.orientation, f.offset)
+        datatype, byteorder, _, n, dim1, dim2, dim3, configuration, orientation, offset, _ = _described(self._place(block))
+        words = _DATA_TYPES[datatype], _BYTE_ORDERS[byteorder], "None"
+        return Description(*words, (dim1, dim2, dim3)[:n], configuration, orientation, offset)
 
     def array(self, block, out=None):
         """The array of a block, in raster configuration 1 and with its value offset added: a numpy array of this machine's byte
@@ -489,13 +489,13 @@ class File:
         place, numpy = self._place(block), _numpy()
         if numpy is None and out is not None:
             raise ValueError("out is for numpy arrays, and numpy is not installed: read_into takes other buffers")
-        f = _described(place)
+        datatype, _, _, n, dim1, dim2, dim3, *_ = _described(place)
         if numpy is None:
-            data = bytearray(max(f.dim1 * f.dim2 * f.dim3 * _WIDTHS[f.datatype], 1))
+            data = bytearray(max(dim1 * dim2 * dim3 * _WIDTHS[datatype], 1))
             owner = c_char.from_buffer(data)
             length = _read(place, _NATIVE_ORDER, ctypes.addressof(owner), len(data))
             return bytes(memoryview(data)[:length])
-        shape, kind = (f.dim3, f.dim2, f.dim1)[3 - f.n :], _NUMPY_TYPES[f.datatype]
+        shape, kind = (dim3, dim2, dim1)[3 - n :], _NUMPY_TYPES[datatype]
         if out is None:
             out = numpy.empty(shape, kind)
         elif not (isinstance(out, numpy.ndarray) and out.shape == shape and out.dtype == kind and out.flags.c_contiguous

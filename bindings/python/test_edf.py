@@ -167,6 +167,9 @@ class Blocks(unittest.TestCase):
         with self.assertRaises(edf.EdfError) as caught:
             file.array(0)
         self.assertEqual((caught.exception.code, caught.exception.field), (17, "ByteOrder"))
+        with self.assertRaises(edf.EdfError) as caught:
+            file.read_into(0, bytearray(12))
+        self.assertEqual((caught.exception.code, caught.exception.field), (17, "ByteOrder"))
         for code in edf.Code:
             self.assertGreater(len(edf.EdfError(code, 0).words), 5)
 
@@ -358,6 +361,11 @@ class Arrays(unittest.TestCase):
                     file.read_into(0, out)
                 self.assertEqual(str(caught.exception), "the array would be written over the bytes of its file")
         self.assertEqual(data, before)
+
+    def test_value_offset_below_zero(self):
+        file = edf.File(b"{ Size = 2 ; DataType = SignedByte ; Dim_1 = 2 ; DataValueOffset = -3 ;".ljust(510) + b"}\n\x05\x80")
+        self.assertEqual(file.describe(0), ("SignedByte", "HighByteFirst", "None", (2,), 1, 1, -3))
+        self.assertEqual(bytes(file.array(0)), b"\x02\x80")
 
     def test_empty_array(self):
         body = b"{\nSize = 0 ;\n"
