@@ -1,6 +1,7 @@
 """Tests of edf.py: python3 -m unittest, in this folder. numpy is not needed; what needs it is skipped where it is not installed."""
 
 import ctypes
+import gc
 import glob
 import os
 import pathlib
@@ -253,6 +254,7 @@ class Blocks(unittest.TestCase):
             edf.File("text")
 
     def test_descriptors_are_closed(self):
+        gc.collect()  # files of other tests
         before = os.listdir("/dev/fd")
         for name in ("raster_7.edf", "nul_in_header.edf", "no such file", "."):
             try:
