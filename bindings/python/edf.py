@@ -7,7 +7,7 @@
             print(block.number, block.identity)
         print(file.header(0)["Title"])      # header(n): a mapping from keys to text
         image = file.array(0)               # a numpy array where numpy is installed, else bytes
-        file.array(0, out=image)            # the same into an array that is there
+        file.array(0, out=image)            # with numpy: the same into an array that is there, no new memory
         print(file.pixel(0, 2, 1))          # index 1 is 2, index 2 is 1
 
     data = edf.write(image, title="a copy") # the bytes of a file of one block
