@@ -1,9 +1,11 @@
 """How long Python takes to read files of this format: fabio, numpy by hand, and this library through bindings/python/edf.py, on the
 same files, in one run, in turns; the best of many. What they read is compared first. Prints tables.
 
-fabio is the reader that this field uses. "fromfile" and "memmap" are what one writes with numpy alone who knows already where the
-pixels are and how they are stored: numpy.fromfile or numpy.memmap, then the bytes in this machine's order and the array in raster
-configuration 1. They check nothing and do not read the header. Each answers an array of its own, in this machine's byte order."""
+fabio is the reader that this field uses. "numpy" is what one writes with numpy alone: it reads the first header, takes from it how
+the pixels are stored, then numpy.fromfile, the bytes in this machine's order and the array in raster configuration 1. It checks
+next to nothing. "fromfile" and "memmap" are the same for one who knows already where the pixels are and how they are stored: they
+do not read the header. Each answers an array of its own, in this machine's byte order; but for the table of arrays that are there
+already, into which all put their pixels."""
 
 import os
 import shutil
@@ -21,7 +23,7 @@ import fabio  # noqa: E402
 import numpy  # noqa: E402
 
 logging.disable(logging.CRITICAL)
-behind = {"fabio": [], "numpy": []}
+behind = {"fabio": [], "numpy": [], "fromfile": [], "memmap": []}  # the rows where each is quicker than this library
 
 
 def best(calls):
@@ -39,12 +41,12 @@ def best(calls):
 
 
 def cells(name, others, own):
-    """The times of a row and their ratios to this library's time; notes the rows where it is behind."""
-    for n, other in enumerate(others):
-        if other is not None and own >= other and name not in behind["numpy" if n else "fabio"]:
-            behind["numpy" if n else "fabio"].append(name)
-    times = ["%.3f" % t if t is not None else "-" for t in others + [own]]
-    ratios = ["%.2f" % (t / own) if t is not None else "-" for t in others]
+    """The times of a row by reader, None where it has none, and their ratios to this library's time; notes where it is behind."""
+    for reader, other in others.items():
+        if other is not None and own >= other:
+            behind[reader].append(name)
+    times = ["%.3f" % t if t is not None else "-" for t in [*others.values(), own]]
+    ratios = ["%.2f" % (t / own) if t is not None else "-" for t in others.values()]
     print("| " + " | ".join([name] + times + ratios) + " |", flush=True)
 
 
@@ -57,49 +59,87 @@ def header(statements):
 KINDS = {"UnsignedByte": "u1", "UnsignedShort": "u2", "SignedShort": "i2", "UnsignedInteger": "u4", "SignedInteger": "i4",
          "Unsigned64": "u8", "FloatIEEE32": "f4", "FloatIEEE64": "f8"}
 
+# ---- numpy alone
+
+
+def first_header(stream):
+    """The keywords of the first header of a file, and where its data starts."""
+    text = more = stream.read(4096)
+    while more and b"}\n" not in text:
+        more = stream.read(4096)
+        text += more
+    end = text.index(b"}\n")
+    keywords = {}
+    for statement in text[text.index(b"{") + 1 : end].decode("ascii").split(";"):
+        key, equals, value = statement.partition("=")
+        if equals:
+            keywords[key.strip()] = value.strip()
+    return keywords, end + 2
+
+
+def delivered(array, configuration=1, offset=0, copied=False):
+    """An array as it is stored, in this machine's byte order, in raster configuration 1 and with a value offset added."""
+    if configuration in (2, 4):
+        array = array[:, ::-1]
+    if configuration in (3, 4):
+        array = array[::-1]
+    if configuration == 6:  # (2,-1)
+        array = array[::-1].T
+    native = array.dtype.newbyteorder("=")
+    array = numpy.array(array, native, order="C", subok=False) if copied else numpy.ascontiguousarray(array, native)
+    if offset:
+        wide = array.astype("i8") + offset
+        limits = numpy.iinfo(array.dtype)
+        array = numpy.clip(wide, limits.min, limits.max).astype(array.dtype)
+    return array
+
+
+def numpy_alone(path):
+    """The array of the first block of a file."""
+    with open(path, "rb", buffering=0) as stream:
+        keywords, start = first_header(stream)
+        stored = numpy.dtype(("<" if keywords["ByteOrder"] == "LowByteFirst" else ">") + KINDS[keywords["DataType"]])
+        width, height = int(keywords["Dim_1"]), int(keywords["Dim_2"])
+        stream.seek(start)
+        array = numpy.fromfile(stream, stored, width * height).reshape(height, width)
+    return delivered(array, int(keywords.get("DataRasterConfiguration", 1)), int(keywords.get("DataValueOffset", 0)))
+
+
 # ---- One image
 
 
-def one_image(folder, data_type, low_first, configuration=1, offset=0, side=2048):
-    """A row: reading an image of side by side elements from its path."""
+def stored_image(path, data_type, low_first, configuration=1, offset=0, side=2048):
+    """Writes a file of one image of side by side elements: its numpy type, and where its data starts."""
     stored = numpy.dtype(("<" if low_first else ">") + KINDS[data_type])
-    size = side * side * stored.itemsize
-    statements = [("ByteOrder", "LowByteFirst" if low_first else "HighByteFirst"), ("DataType", data_type), ("Dim_1", side), ("Dim_2", side),
-                  ("Size", size)]
+    statements = [("ByteOrder", "LowByteFirst" if low_first else "HighByteFirst"), ("DataType", data_type), ("Dim_1", side),
+                  ("Dim_2", side), ("Size", side * side * stored.itemsize)]
     if configuration != 1:
         statements.append(("DataRasterConfiguration", configuration))
     if offset:
         statements.append(("DataValueOffset", offset))
     start = header(statements)
-    path = os.path.join(folder, "image.edf")
-    pixels = numpy.random.default_rng(1).integers(0, 200, (side, side)).astype(stored)
     with open(path, "wb") as stream:
         stream.write(start)
-        pixels.tofile(stream)
+        numpy.random.default_rng(1).integers(0, 200, (side, side)).astype(stored).tofile(stream)
+    return stored, len(start)
+
+
+def one_image(folder, data_type, low_first, configuration=1, offset=0, side=2048):
+    """A row: reading an image of side by side elements from its path."""
+    path = os.path.join(folder, "image.edf")
+    stored, start = stored_image(path, data_type, low_first, configuration, offset, side)
 
     def by_fabio():
         return fabio.open(path).data
 
+    def by_numpy():
+        return numpy_alone(path)
+
     def by_fromfile():
-        return delivered(numpy.fromfile(path, stored, side * side, offset=len(start)).reshape(side, side))
+        return delivered(numpy.fromfile(path, stored, side * side, offset=start).reshape(side, side), configuration, offset)
 
     def by_memmap():
-        return delivered(numpy.memmap(path, stored, "r", len(start), (side, side)), copied=True)
-
-    def delivered(array, copied=False):
-        if configuration in (2, 4):
-            array = array[:, ::-1]
-        if configuration in (3, 4):
-            array = array[::-1]
-        if configuration == 6:  # (2,-1)
-            array = array[::-1].T
-        native = stored.newbyteorder("=")
-        array = numpy.array(array, native, order="C", subok=False) if copied else numpy.ascontiguousarray(array, native)
-        if offset:
-            wide = array.astype("i8") + offset
-            limits = numpy.iinfo(array.dtype)
-            array = numpy.clip(wide, limits.min, limits.max).astype(array.dtype)
-        return array
+        return delivered(numpy.memmap(path, stored, "r", start, (side, side)), configuration, offset, copied=True)
 
     def by_edf():
         with edf.open(path) as file:
@@ -108,20 +148,24 @@ def one_image(folder, data_type, low_first, configuration=1, offset=0, side=2048
     plain = configuration == 1 and not offset
     expected = by_fromfile()
     assert (by_edf() == expected).all() and by_edf().dtype == expected.dtype
+    assert (by_numpy() == expected).all() and by_numpy().dtype == expected.dtype
     assert (by_memmap() == expected).all() and by_memmap().flags.owndata
     assert not plain or (by_fabio() == expected).all()
-    calls = ([by_fabio] if plain else []) + [by_fromfile, by_memmap, by_edf]
-    times = best(calls)
+    readers = {"fabio": by_fabio, "numpy": by_numpy, "fromfile": by_fromfile, "memmap": by_memmap, "edf": by_edf}
+    if not plain:
+        del readers["fabio"]
+    times = dict(zip(readers, best(list(readers.values()))))
     name = "%s, %s" % (data_type, "low byte first" if low_first else "high byte first")
     name += ", configuration %d" % configuration if configuration != 1 else ""
     name += ", offset %d" % offset if offset else ""
-    cells(name, ([] if plain else [None]) + times[:-1], times[-1])
+    cells(name, {reader: times.get(reader) for reader in behind}, times["edf"])
     os.remove(path)
 
 
 def images(folder):
-    print("| reading an image of 2,048 by 2,048 | fabio ms | fromfile ms | memmap ms | edf ms | fabio / edf | fromfile / edf | memmap / edf |")
-    print("|---|---|---|---|---|---|---|---|")
+    print("| reading an image of 2,048 by 2,048 | %s | edf ms | %s |" % (" | ".join(reader + " ms" for reader in behind),
+                                                                       " | ".join(reader + " / edf" for reader in behind)))
+    print("|---" * (2 * len(behind) + 2) + "|")
     for data_type in KINDS:
         for low_first in (True, False):
             one_image(folder, data_type, low_first)
@@ -129,6 +173,53 @@ def images(folder):
         one_image(folder, "UnsignedShort", True, configuration)
     one_image(folder, "UnsignedShort", True, 1, 10)
     print("\nfabio does not undo raster configurations and does not add value offsets: `-`.\n")
+
+
+# ---- An array that is there
+
+
+def image_into(folder, side, low_first):
+    """A row: reading an image of side by side elements of two bytes into a new array, and into one that is there already."""
+    path = os.path.join(folder, "image.edf")
+    stored, start = stored_image(path, "UnsignedShort", low_first, side=side)
+    out = numpy.zeros((side, side), stored.newbyteorder("="))
+
+    def by_readinto():
+        with open(path, "rb", buffering=0) as stream:
+            stream.seek(start)
+            stream.readinto(out)
+        return out if stored.isnative else out.byteswap(inplace=True)
+
+    def by_memmap():
+        numpy.copyto(out, numpy.memmap(path, stored, "r", start, (side, side)))
+        return out
+
+    def by_edf():
+        with edf.open(path) as file:
+            return file.array(0)
+
+    def by_edf_out():
+        with edf.open(path) as file:
+            return file.array(0, out=out)
+
+    expected = by_edf()
+    for call in (by_readinto, by_memmap, by_edf_out):
+        out[:] = 0
+        assert (call() == expected).all()
+    del expected
+    *others, own = best([by_readinto, by_memmap, by_edf, by_edf_out])
+    name = "%d MiB, %s" % (out.nbytes >> 20, "low byte first" if low_first else "high byte first")
+    print("| " + " | ".join([name] + ["%.3f" % t for t in others + [own]] + ["%.2f" % (t / own) for t in others]) + " |", flush=True)
+    os.remove(path)
+
+
+def arrays_that_are_there(folder):
+    print("| reading UnsignedShort into an array that is there | readinto ms | memmap ms | edf, new array ms | edf, out= ms "
+          "| readinto / out= | memmap / out= | new array / out= |\n|---|---|---|---|---|---|---|---|")
+    for side in (2048, 4096, 8192):
+        for low_first in (True, False):
+            image_into(folder, side, low_first)
+    print()
 
 
 # ---- Many frames
@@ -187,7 +278,7 @@ def many_frames(folder, frames, keywords, side):
     for name, calls in (("open", (fabio_open, edf_open)), ("all keywords", (fabio_headers, edf_headers)),
                         ("the last image", (fabio_last, edf_last)), ("all images", (fabio_frames, edf_frames))):
         theirs, own = best(calls)
-        cells(about + name, [theirs], own)
+        cells(about + name, {"fabio": theirs}, own)
     os.remove(path)
 
 
@@ -196,6 +287,7 @@ def main():
     try:
         print("fabio %s, numpy %s, Python %s\n" % (fabio.version, numpy.__version__, sys.version.split()[0]))
         images(folder)
+        arrays_that_are_there(folder)
         print("| files of several frames | fabio ms | edf ms | fabio / edf |\n|---|---|---|---|")
         for frames in (1, 16, 256):
             for keywords in (10, 60):
@@ -203,8 +295,9 @@ def main():
         many_frames(folder, 16, 10, 2048)
     finally:
         shutil.rmtree(folder)
-    for other, rows in behind.items():
-        print("\nbehind %s on %d rows%s" % (other, len(rows), ": " + "; ".join(rows) if rows else ""))
+    about = {"fabio": "", "numpy": " (reads the header)", "fromfile": " (told beforehand)", "memmap": " (told beforehand)"}
+    for reader, rows in behind.items():
+        print("\nbehind %s%s on %d rows%s" % (reader, about[reader], len(rows), ": " + "; ".join(rows) if rows else ""))
 
 
 main()

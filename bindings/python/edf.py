@@ -7,6 +7,7 @@
             print(block.number, block.identity)
         print(file.header(0)["Title"])      # header(n): a mapping from keys to text
         image = file.array(0)               # a numpy array where numpy is installed, else bytes
+        file.array(0, out=image)            # with numpy: the same into an array that is there, no new memory
         print(file.pixel(0, 2, 1))          # index 1 is 2, index 2 is 1
 
     data = edf.write(image, title="a copy") # the bytes of a file of one block
@@ -20,10 +21,12 @@ looks. What of this is proved, and what is not, is said in docs/BINDINGS.md.
 import collections.abc
 import ctypes
 import enum
+import errno
 import io
 import mmap
 import operator
 import os
+import stat
 import struct
 import sys
 from ctypes import POINTER, byref, c_char, c_char_p, c_double, c_float, c_int64, c_size_t, c_uint8, c_uint32, c_uint64, c_void_p
@@ -39,14 +42,15 @@ _HEADER_CAPACITY = 4096  # more than the header and the filling of a written fil
 # ---- The library
 
 
-class _Fields(ctypes.Structure):
-    """What edf_describe sets, in its order."""
+# Numbers that calls set, each in eight bytes; the last is the position of an error.
+_ROW = struct.Struct("=4QqQq")
+_TABLE_LENGTH = 7 * MOST_BLOCKS
+_Table = c_uint64 * (_TABLE_LENGTH + 2)  # of edf_open: the rows, and how many of them are blocks
+_FIELDS = struct.Struct("=B7xB7xB7xB7x3QI4xI4xqQ")
+_Fields = c_uint64 * (_FIELDS.size // 8)  # of edf_describe, in its order
+_Length = c_uint64 * 2  # of edf_read_array
 
-    _fields_ = [("datatype", c_uint8), ("byteorder", c_uint8), ("compression", c_uint8), ("n", c_uint8), ("dim1", c_size_t),
-                ("dim2", c_size_t), ("dim3", c_size_t), ("configuration", c_uint32), ("orientation", c_uint32), ("offset", c_int64)]
-
-
-_FIELD_OFFSETS = [getattr(_Fields, name).offset for name, _ in _Fields._fields_]
+_Front = c_char * 0  # the front of a buffer, which may be empty
 
 
 def _load():
@@ -59,7 +63,7 @@ def _load():
     keyword = bytes_in + [c_size_t] + bytes_in
     buffer_out = [c_void_p, c_size_t, number_out, number_out]
     calls = {
-        "edf_open": bytes_in + buffer_out,
+        "edf_open": bytes_in + [c_void_p, c_size_t, c_void_p, c_void_p],
         "edf_list": bytes_in + buffer_out,
         "edf_find": keyword + [number_out] * 3,
         "edf_text": keyword + buffer_out,
@@ -67,8 +71,8 @@ def _load():
         "edf_keywords": bytes_in + buffer_out,
         "edf_escape": bytes_in + buffer_out,
         "edf_unescape": bytes_in + buffer_out,
-        "edf_describe": bytes_in + [c_size_t] + [c_void_p] * len(_Fields._fields_) + [number_out],
-        "edf_read_array": bytes_in + [c_size_t, c_uint8] + buffer_out,
+        "edf_describe": bytes_in + [c_size_t] + [c_void_p] * len(_Fields()),
+        "edf_read_array": bytes_in + [c_size_t, c_uint8, c_void_p, c_size_t, c_void_p, c_void_p],
         "edf_read_pixel": bytes_in + [c_size_t] * 4
         + [POINTER(c_uint8), POINTER(c_uint64), POINTER(c_int64), POINTER(c_float), POINTER(c_double), number_out],
         "edf_write": [c_int64, c_uint8, c_int64, c_uint8, c_uint8, c_uint8, c_size_t, c_size_t, c_size_t, c_uint32]
@@ -142,8 +146,10 @@ _DATA_TYPES = [_library.edf_datatype_name(n).decode("ascii") for n in range(11)]
 _BYTE_ORDERS = [_library.edf_byteorder_name(n).decode("ascii") for n in range(3)]
 _WIDTHS = [_library.edf_datatype_width(n) for n in range(11)]
 _KINDS = " uiuiuifuif"  # numpy's letter for each data type
+_NUMPY_TYPES = ["=%s%d" % pair for pair in zip(_KINDS, _WIDTHS)]  # numpy's name for each, in this machine's byte order
 _INSTANCES = ["", "Psd", "Error"]
-_NATIVE = _BYTE_ORDERS[1 if sys.byteorder == "big" else 2]
+_NATIVE_ORDER = 1 if sys.byteorder == "big" else 2
+_NATIVE = _BYTE_ORDERS[_NATIVE_ORDER]
 
 
 def _number_of(words, word, what):
@@ -202,13 +208,13 @@ def _whole(value, lowest, highest, code):
 def _lent(data):
     """Bytes that calls read: their address, their number, and what keeps them there. They are copied where they are read-only (but
     for bytes), scattered or none."""
-    view = memoryview(data)
-    if not isinstance(data, bytes) and (view.readonly or not view.c_contiguous or view.nbytes == 0):
-        data = view.tobytes()
-    if isinstance(data, bytes):
-        return ctypes.cast(c_char_p(data), c_void_p).value, len(data), data
-    owner = c_char.from_buffer(data)
-    return ctypes.addressof(owner), view.nbytes, owner
+    if not isinstance(data, bytes):
+        try:
+            owner = c_char.from_buffer(data)
+            return ctypes.addressof(owner), memoryview(data).nbytes, owner
+        except (TypeError, ValueError):
+            data = memoryview(data).tobytes()
+    return ctypes.cast(c_char_p(data), c_void_p).value, len(data), data
 
 
 def _into(capacity, call, *arguments):
@@ -315,12 +321,14 @@ class Header(collections.abc.Mapping):
 
 
 def _opened(address, length):
-    """The rows of the table of a file's blocks."""
-    rows, count, position = (c_uint64 * (7 * MOST_BLOCKS))(), c_size_t(), c_size_t()
-    code = _library.edf_open(address, length, rows, len(rows), byref(count), byref(position))
+    """The rows of a file's blocks."""
+    table = _Table()
+    rows = ctypes.addressof(table)
+    count = rows + 8 * _TABLE_LENGTH
+    code = _library.edf_open(address, length, rows, _TABLE_LENGTH, count, count + 8)
     if code:
-        raise EdfError(code, position.value)
-    return list(struct.iter_unpack("=4QqQq", memoryview(rows).cast("B")[: 56 * count.value]))
+        raise EdfError(code, table[-1])
+    return [_ROW.unpack_from(table, number * _ROW.size) for number in range(table[-2])]
 
 
 def _block(number, start, header_length, data_length, kind, sequence, instance, memory):
@@ -328,16 +336,55 @@ def _block(number, start, header_length, data_length, kind, sequence, instance, 
     return Block(number, start, header_length, data_length, "data" if kind else "general", identity)
 
 
+def _answered(place, call, *arguments):
+    """A call on a block, at the place that File._place gives."""
+    address, length, number, _start, _owner = place
+    position = c_size_t()
+    code = call(address, length, number, *arguments, byref(position))
+    if code:
+        raise EdfError(code, position.value)
+
+
+def _described(place):
+    """What edf_describe says about a block's array, in its order."""
+    address, length, number, _start, _owner = place
+    fields = _Fields()
+    first = ctypes.addressof(fields)
+    code = _library.edf_describe(address, length, number, *range(first, first + _FIELDS.size, 8))
+    if code:
+        raise EdfError(code, fields[-1])
+    return _FIELDS.unpack(fields)
+
+
+def _read(place, order, out, capacity):
+    """Writes the array of a block to an address; the answer is the number of its bytes."""
+    address, length, number, _start, _owner = place
+    if out < address + length and address < out + capacity:
+        raise ValueError("the array would be written over the bytes of its file")
+    written = _Length()
+    first = ctypes.addressof(written)
+    code = _library.edf_read_array(address, length, number, order, out, capacity, first, first + 8)
+    if code:
+        raise EdfError(code, written[-1])
+    return written[0]
+
+
 class File:
     """A file, opened: its bytes and its blocks. The bytes must not change while a call runs; they are not copied where they are
     bytes or a writable buffer."""
 
     def __init__(self, data):
-        self._bytes = _lent(data)
-        address, length, _owner = self._bytes
+        self._bytes = address, length, _owner = _lent(data)
         self._rows = _opened(address, length)
-        self.blocks = tuple(_block(number, *row) for number, row in enumerate(self._rows))
-        self._parts = {}
+        self._parts = {} if len(self._rows) > 1 else {0: (0, length, 0)}
+        self._blocks = None
+
+    @property
+    def blocks(self):
+        """The blocks of the file, in order."""
+        if self._blocks is None:
+            self._blocks = tuple(_block(number, *row) for number, row in enumerate(self._rows))
+        return self._blocks
 
     def close(self):
         """Lets the file's bytes go."""
@@ -350,17 +397,25 @@ class File:
         self.close()
 
     def __len__(self):
-        return len(self.blocks)
+        return len(self._rows)
 
-    def _call(self, block, call, *arguments):
-        """A call on a block, with as little of the file as answers the same; where that starts."""
-        number = _whole(block, 0, len(self.blocks) - 1, Code.NOT_FOUND)
-        (address, length, _owner), position = self._open_bytes(), c_size_t()
+    def _has_general_block(self):
+        return self._rows[0][3] == 0
+
+    def _number(self, block):
+        """The number of a block that there is: ctypes would cut others to their low bits."""
+        number = operator.index(block)
+        if not 0 <= number < len(self._rows):
+            raise EdfError(Code.NOT_FOUND, 0)
+        return number
+
+    def _place(self, block):
+        """Where a call on a block looks, as little of the file as answers the same: address, length, the block's number there, the
+        start in the file, and what keeps the bytes there."""
+        number = self._number(block)
+        address, length, owner = self._open_bytes()
         start, length, number = self._parts.get(number) or self._part(address, length, number)
-        code = call(address + start, length, number, *arguments, byref(position))
-        if code:
-            raise EdfError(code, position.value)
-        return start
+        return address + start, length, number, start, owner
 
     def _part(self, address, length, number):
         """Start and length of the part of the file in which calls on a block answer as in the whole file, and the block's number
@@ -369,7 +424,7 @@ class File:
         the same lengths, kind and identity: its answers then hang on the same header and the same data."""
         part, row = (0, length, number), self._rows[number]
         start, size = row[0], row[1] + row[2]
-        if len(self.blocks) > 1 and self.blocks[0].kind == "data":
+        if not self._has_general_block():
             try:
                 if _opened(address + start, size) == [(0,) + row[1:]]:
                     part = start, size, 0
@@ -379,20 +434,21 @@ class File:
         return part
 
     def _open_bytes(self):
-        if self._bytes is None:
+        lent = self._bytes
+        if lent is None:
             raise ValueError("the file is closed")
-        return self._bytes
+        return lent
 
     def header(self, block):
         """The keywords of a block, a mapping from keys to text."""
-        number = _whole(block, 0, len(self.blocks) - 1, Code.NOT_FOUND)
-        general = self._keywords(0) if self.blocks[0].kind == "general" and number != 0 else {}
+        number = self._number(block)
+        general = self._keywords(0) if number != 0 and self._has_general_block() else {}
         return Header(self._keywords(number), general)
 
     def _keywords(self, number):
         """The keywords of a block's own header."""
-        (address, _length, _owner), block = self._open_bytes(), self.blocks[number]
-        return _keywords(address + block.start, block.header_length)
+        (address, _length, _owner), row = self._open_bytes(), self._rows[number]
+        return _keywords(address + row[0], row[1])
 
     def part(self, offset, length):
         """The bytes at a span of the file, as `find` gives it; none where it does not lie inside."""
@@ -404,75 +460,83 @@ class File:
     def find(self, block, key):
         """Offset and length of the value of a keyword in the file."""
         key, offset, length = _encoded(key), c_size_t(), c_size_t()
-        start = self._call(block, _library.edf_find, key, len(key), byref(offset), byref(length))
-        return start + offset.value, length.value
+        place = self._place(block)
+        _answered(place, _library.edf_find, key, len(key), byref(offset), byref(length))
+        return place[3] + offset.value, length.value
 
     def text(self, block, key):
         """The value of a keyword as text."""
         key, out, length = _encoded(key), ctypes.create_string_buffer(_TEXT_CAPACITY), c_size_t()
-        self._call(block, _library.edf_text, key, len(key), out, _TEXT_CAPACITY, byref(length))
+        _answered(self._place(block), _library.edf_text, key, len(key), out, _TEXT_CAPACITY, byref(length))
         return ctypes.string_at(out, length.value).decode("ascii")
 
     def whole_number(self, block, key):
         """The value of a keyword as a whole number."""
         key, value = _encoded(key), c_int64()
-        self._call(block, _library.edf_whole_number, key, len(key), byref(value))
+        _answered(self._place(block), _library.edf_whole_number, key, len(key), byref(value))
         return value.value
 
     def describe(self, block):
         """The description of a block's array."""
-        return self._described(block)[1]
+        datatype, byteorder, _, n, dim1, dim2, dim3, configuration, orientation, offset, _ = _described(self._place(block))
+        words = _DATA_TYPES[datatype], _BYTE_ORDERS[byteorder], "None"
+        return Description(*words, (dim1, dim2, dim3)[:n], configuration, orientation, offset)
 
-    def _described(self, block):
-        """The number of the data type, and the description."""
-        f = _Fields()
-        address = ctypes.addressof(f)
-        self._call(block, _library.edf_describe, *[address + offset for offset in _FIELD_OFFSETS])
-        words = _DATA_TYPES[f.datatype], _BYTE_ORDERS[f.byteorder], "None"
-        return f.datatype, Description(*words, (f.dim1, f.dim2, f.dim3)[: f.n], f.configuration, f.orientation, f.offset)
-
-    def array(self, block):
+    def array(self, block, out=None):
         """The array of a block, in raster configuration 1 and with its value offset added: a numpy array of this machine's byte
-        order, shape (.., Dim_2, Dim_1); where numpy is not installed, bytes of this machine's byte order."""
-        datatype, description = self._described(block)
-        width, count = _WIDTHS[datatype], 1
-        for dim in description.dims:
-            count *= dim
-        numpy = _numpy()
+        order, shape (.., Dim_2, Dim_1); where numpy is not installed, bytes of this machine's byte order. It is put into `out` where
+        that is given: a numpy array of just this type, byte order and shape, C-contiguous and writable."""
+        place, numpy = self._place(block), _numpy()
+        if numpy is None and out is not None:
+            raise ValueError("out is for numpy arrays, and numpy is not installed: read_into takes other buffers")
+        datatype, _, _, n, dim1, dim2, dim3, *_ = _described(place)
         if numpy is None:
-            out = bytearray(max(count * width, 1))
-            self.read_into(block, out)
-            return bytes(out[: count * width])
-        out = numpy.empty(description.dims[::-1], "=%s%d" % (_KINDS[datatype], width))
-        self._read(block, out.__array_interface__["data"][0], out.nbytes, _NATIVE)
+            data = bytearray(max(dim1 * dim2 * dim3 * _WIDTHS[datatype], 1))
+            owner = c_char.from_buffer(data)
+            length = _read(place, _NATIVE_ORDER, ctypes.addressof(owner), len(data))
+            return bytes(memoryview(data)[:length])
+        shape, kind = (dim3, dim2, dim1)[3 - n :], _NUMPY_TYPES[datatype]
+        if out is None:
+            out = numpy.empty(shape, kind)
+        elif not (isinstance(out, numpy.ndarray) and out.shape == shape and out.dtype == kind and out.flags.c_contiguous
+                  and out.flags.writeable):
+            raise ValueError("out must be a numpy array of shape %s, type %s and this machine's byte order, C-contiguous and writable"
+                             % (shape, kind[1:]))
+        owner = _Front.from_buffer(out)
+        _read(place, _NATIVE_ORDER, ctypes.addressof(owner), out.nbytes)
         return out
 
     def read_into(self, block, out, byte_order=_NATIVE):
         """The array of a block at the front of a writable buffer, as a bytearray or a contiguous numpy array; the answer is the
         number of bytes."""
-        owner = c_char.from_buffer(out)
-        return self._read(block, ctypes.addressof(owner), memoryview(out).nbytes, byte_order)
-
-    def _read(self, block, address, capacity, byte_order):
-        order, length = _number_of(_BYTE_ORDERS, byte_order, "byte_order"), c_size_t()
-        self._call(block, _library.edf_read_array, order, address, capacity, byref(length))
-        return length.value
+        owner, order = c_char.from_buffer(out), _number_of(_BYTE_ORDERS, byte_order, "byte_order")
+        return _read(self._place(block), order, ctypes.addressof(owner), memoryview(out).nbytes)
 
     def pixel(self, block, i1, i2=0, i3=0):
         """One pixel. Indices count from 0; index 1 runs fastest."""
         index = [_whole(i, 0, MOST_BYTES, Code.INDEX_OUTSIDE) for i in (i1, i2, i3)]
         class_, numbers = c_uint8(), (c_uint64(), c_int64(), c_float(), c_double())
-        self._call(block, _library.edf_read_pixel, *index, byref(class_), *map(byref, numbers))
+        _answered(self._place(block), _library.edf_read_pixel, *index, byref(class_), *map(byref, numbers))
         return numbers[class_.value - 1].value
 
 
 def open(path):
     """Opens a file by its path. It is mapped, so that only what is asked for is read; no other program may change it meanwhile. A
     file that may change is read instead: edf.File(pathlib.Path(path).read_bytes())."""
-    with io.open(path, "rb", buffering=0) as stream:
-        if os.fstat(stream.fileno()).st_size == 0:  # nothing to map: an empty file, or a pipe
-            return File(stream.read())
-        return File(mmap.mmap(stream.fileno(), 0, access=mmap.ACCESS_COPY))
+    descriptor = os.open(path, os.O_RDONLY)
+    try:
+        data = mmap.mmap(descriptor, 0, access=mmap.ACCESS_COPY)
+    except (OSError, ValueError):
+        status = os.fstat(descriptor)
+        if stat.S_ISDIR(status.st_mode):
+            raise IsADirectoryError(errno.EISDIR, os.strerror(errno.EISDIR), os.fspath(path)) from None
+        if status.st_size != 0:
+            raise
+        with io.open(descriptor, "rb", buffering=0, closefd=False) as stream:  # nothing to map: an empty file, or a pipe
+            data = stream.read()
+    finally:
+        os.close(descriptor)
+    return File(data)
 
 
 def listing(data):

@@ -1,8 +1,10 @@
 """Tests of edf.py: python3 -m unittest, in this folder. numpy is not needed; what needs it is skipped where it is not installed."""
 
 import ctypes
+import gc
 import glob
 import os
+import pathlib
 import pickle
 import subprocess
 import sys
@@ -166,6 +168,9 @@ class Blocks(unittest.TestCase):
         with self.assertRaises(edf.EdfError) as caught:
             file.array(0)
         self.assertEqual((caught.exception.code, caught.exception.field), (17, "ByteOrder"))
+        with self.assertRaises(edf.EdfError) as caught:
+            file.read_into(0, bytearray(12))
+        self.assertEqual((caught.exception.code, caught.exception.field), (17, "ByteOrder"))
         for code in edf.Code:
             self.assertGreater(len(edf.EdfError(code, 0).words), 5)
 
@@ -211,8 +216,9 @@ class Blocks(unittest.TestCase):
     def test_missing_and_closed(self):
         with self.assertRaises(FileNotFoundError):
             edf.open(fixture("no such file"))
-        with self.assertRaises(IsADirectoryError):
+        with self.assertRaises(IsADirectoryError) as caught:
             edf.open(FIXTURES)
+        self.assertEqual(caught.exception.filename, FIXTURES)
         with edf.open(fixture("raster_7.edf")) as file:
             pass
         for call in (file.header, file.describe, file.array):
@@ -234,11 +240,28 @@ class Blocks(unittest.TestCase):
         os.close(writing)
         self.assertEqual(edf.open("/dev/fd/%d" % reading).pixel(0, 2, 1), 6)
         os.close(reading)
+        with tempfile.TemporaryDirectory() as folder:
+            pipe = os.path.join(folder, "pipe")
+            os.mkfifo(pipe)
+            writer = threading.Thread(target=pathlib.Path(pipe).write_bytes, args=[data])
+            writer.start()
+            self.assertEqual(edf.open(pipe).pixel(0, 2, 1), 6)
+            writer.join()
         twice = bytes(byte for byte in data for _ in range(2))
         for same in (data, bytearray(data), memoryview(data), memoryview(bytearray(data)), memoryview(twice)[::2]):
             self.assertEqual(edf.File(same).pixel(0, 2, 1), 6)
         with self.assertRaises(TypeError):
             edf.File("text")
+
+    def test_descriptors_are_closed(self):
+        gc.collect()  # files of other tests
+        before = os.listdir("/dev/fd")
+        for name in ("raster_7.edf", "nul_in_header.edf", "no such file", "."):
+            try:
+                edf.open(fixture(name)).close()
+            except (edf.EdfError, OSError):
+                pass
+        self.assertEqual(os.listdir("/dev/fd"), before)
 
     def test_bytes_live_as_long_as_the_file(self):
         with open(fixture("raster_7.edf"), "rb") as stream:
@@ -253,11 +276,58 @@ class Blocks(unittest.TestCase):
                 if file.header(turn % 10)["EDF_DataBlockID"] != "%d.Image.Psd" % (turn % 10):
                     wrong.append(turn)
 
-        threads = [threading.Thread(target=read) for _ in range(4)]
+        self.run_threads(read)
+        self.assertEqual(wrong, [])
+
+    def run_threads(self, *targets):
+        """Runs four threads of each target at once."""
+        threads = [threading.Thread(target=target) for target in targets for _ in range(4)]
         for thread in threads:
             thread.start()
         for thread in threads:
             thread.join()
+
+    def test_threads_with_one_file_and_with_files_of_their_own(self):
+        names, wrong = ["fabio_multi_10.edf", "raster_7.edf", "silx_3d_uint16.edf", "general_defaults.edf"], []
+        files = [edf.open(fixture(name)) for name in names]
+
+        def answers(file):
+            last = len(file) - 1
+            return file.blocks, file.describe(last), bytes(file.array(last)), file.pixel(last, 1)
+
+        expected = [answers(edf.open(fixture(name))) for name in names]
+
+        def read(of):
+            for turn in range(200):
+                try:
+                    if answers(of(turn % 4)) != expected[turn % 4]:
+                        wrong.append(turn)
+                except Exception as error:
+                    wrong.append(error)
+
+        self.run_threads(lambda: read(lambda n: files[n]), lambda: read(lambda n: edf.open(fixture(names[n]))))
+        self.assertEqual(wrong, [])
+
+    def test_closing_while_another_thread_reads(self):
+        expected, wrong = bytes(edf.open(fixture("raster_7.edf")).array(0)), []
+        for _ in range(50):
+            file = edf.open(fixture("raster_7.edf"))
+
+            def read():
+                try:
+                    while True:
+                        if bytes(file.array(0)) != expected:
+                            wrong.append("array")
+                except Exception as error:
+                    if str(error) != "the file is closed":
+                        wrong.append(error)
+
+            threads = [threading.Thread(target=read) for _ in range(2)]
+            for thread in threads:
+                thread.start()
+            file.close()
+            for thread in threads:
+                thread.join()
         self.assertEqual(wrong, [])
 
 
@@ -267,6 +337,10 @@ class Arrays(unittest.TestCase):
             expected = b"".join(n.to_bytes(2, sys.byteorder) for n in (1, 2, 3, 4, 5, 6))
             self.assertEqual(file.array(0), expected)
             self.assertIsInstance(file.array(0), bytes)
+            for out in (bytearray(12), []):
+                with self.assertRaises(ValueError) as caught:
+                    file.array(0, out=out)
+                self.assertIn("numpy is not installed", str(caught.exception))
 
     def test_read_into(self):
         with edf.open(fixture("raster_7.edf")) as file:
@@ -278,6 +352,22 @@ class Arrays(unittest.TestCase):
             self.assertEqual(caught.exception.code, edf.Code.BUFFER_TOO_SMALL)
             with self.assertRaises(ValueError):
                 file.read_into(0, out, "MiddleByteFirst")
+
+    def test_read_into_the_file_itself(self):
+        with open(fixture("raster_7.edf"), "rb") as stream:
+            data = bytearray(stream.read())
+        before = bytes(data)
+        with edf.File(data) as file:
+            for out in (data, memoryview(data)[:12], memoryview(data)[-12:]):
+                with self.assertRaises(ValueError) as caught:
+                    file.read_into(0, out)
+                self.assertEqual(str(caught.exception), "the array would be written over the bytes of its file")
+        self.assertEqual(data, before)
+
+    def test_value_offset_below_zero(self):
+        file = edf.File(b"{ Size = 2 ; DataType = SignedByte ; Dim_1 = 2 ; DataValueOffset = -3 ;".ljust(510) + b"}\n\x05\x80")
+        self.assertEqual(file.describe(0), ("SignedByte", "HighByteFirst", "None", (2,), 1, 1, -3))
+        self.assertEqual(bytes(file.array(0)), b"\x02\x80")
 
     def test_empty_array(self):
         body = b"{\nSize = 0 ;\n"
@@ -304,6 +394,55 @@ class Arrays(unittest.TestCase):
             self.assertEqual(array.shape, (2, 3, 4))
             self.assertEqual(array[1, 2, 3], file.pixel(0, 3, 2, 1))
             self.assertEqual(file.pixel(numpy.int64(0), numpy.int64(3), numpy.uint8(2), 1), array[1, 2, 3])
+
+    @with_numpy
+    def test_array_into_one_that_is_there(self):
+        with edf.open(fixture("raster_7.edf")) as file:
+            stack = numpy.full((3, 2, 3), 9, "uint16")
+            unaligned = numpy.zeros(13, "uint8")[1:].view("uint16").reshape(2, 3)
+            for out in (numpy.zeros((2, 3), "uint16"), stack[1], unaligned, numpy.zeros((1, 2, 3), "uint16")[0]):
+                self.assertIs(file.array(0, out=out), out)
+                self.assertEqual(out.tolist(), [[1, 2, 3], [4, 5, 6]])
+            self.assertEqual([stack[0].tolist(), stack[2].tolist()], [[[9, 9, 9]] * 2] * 2)
+            read_only = numpy.zeros((2, 3), "uint16")
+            read_only.flags.writeable = False
+            wrong = {"shape": numpy.zeros((3, 2), "uint16"), "more": numpy.zeros((3, 3), "uint16"), "dims": numpy.zeros(6, "uint16"),
+                     "dtype": numpy.zeros((2, 3), "int16"), "width": numpy.zeros((2, 3), "uint32"),
+                     "byte order": numpy.zeros((2, 3), numpy.dtype("uint16").newbyteorder()),
+                     "turned": numpy.zeros((3, 2), "uint16").T, "scattered": numpy.zeros((2, 6), "uint16")[:, ::2],
+                     "read-only": read_only}
+            for name, out in wrong.items():
+                with self.assertRaises(ValueError, msg=name) as caught:
+                    file.array(0, out=out)
+                self.assertEqual(str(caught.exception), "out must be a numpy array of shape (2, 3), type u2 and this machine's byte "
+                                 "order, C-contiguous and writable", name)
+                self.assertFalse(out.any(), name)
+            for out in (bytearray(12), [[0] * 3] * 2, "uint16", 0):
+                self.assertRaises(ValueError, file.array, 0, out)
+        with self.assertRaises(ValueError):
+            file.array(0, out=stack[0])
+        with edf.open(fixture("order_unknown.edf")) as refused, self.assertRaises(edf.EdfError):
+            refused.array(0, out=stack[0])
+        self.assertEqual(stack[0].tolist(), [[9, 9, 9]] * 2)
+
+    @with_numpy
+    def test_array_into_one_of_each_type(self):
+        for letter in "BbHhIifQqd":
+            for shape in ((5,), (3, 5), (2, 3, 5)):
+                array = (numpy.arange(numpy.prod(shape)) * 7 - 20).astype(letter).reshape(shape)
+                out = numpy.zeros(shape, letter)
+                self.assertIs(edf.File(edf.write(array)).array(0, out=out), out)
+                self.assertTrue((out == array).all(), (letter, shape))
+        file = edf.File(b"{\nSize = 0 ;\n".ljust(510) + b"}\n")
+        out = numpy.zeros(0, file.array(0).dtype)
+        self.assertIs(file.array(0, out=out), out)
+
+    @with_numpy
+    def test_array_into_the_file_itself(self):
+        data = bytearray(edf.write(numpy.arange(6, dtype="uint8")))
+        with self.assertRaises(ValueError) as caught:
+            edf.File(data).array(0, out=numpy.frombuffer(data, "uint8", 6, 512))
+        self.assertEqual(str(caught.exception), "the array would be written over the bytes of its file")
 
     @with_numpy
     def test_read_into_a_stack(self):
