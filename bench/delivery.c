@@ -85,8 +85,8 @@ static void measure(int type, int low_first, int asked_low, int n, size_t d1, si
         printf("wrong: %s configuration %d: code %d at %zu\n", types[type].word, configuration, code, position);
         exit(1);
     }
-    printf("| %-15s | %s | %d | %2d | %6lld | %7.2f | %7.2f | %7.2f | %5.2f | %5.2f |\n", types[type].word, low_first == asked_low ? "same    " : "reversed", n,
-           configuration, offset, best[0], best[1], best[2], best[2] / best[0], best[2] / best[1]);
+    printf("| %-15s | %s | %s | %d | %2d | %6lld | %7.2f | %7.2f | %7.2f | %5.2f | %5.2f |\n", types[type].word, low_first ? "low " : "high",
+           asked_low ? "low " : "high", n, configuration, offset, best[0], best[1], best[2], best[2] / best[0], best[2] / best[1]);
     fflush(stdout);
 }
 
@@ -116,19 +116,23 @@ int main(void) {
     file = malloc(most + 4096), out = malloc(most), expected = malloc(most);
     for (size_t i = 0; i < most + 512; i++) file[i] = (uint8_t)(i * 2654435761u >> 13);
     memset(out, 1, most), memset(expected, 1, most);
-    printf("| type | bytes | N | configuration | offset | memcpy ms | plain C ms | edf ms | edf / memcpy | edf / C |\n");
-    printf("|---|---|---|---|---|---|---|---|---|---|\n");
+    printf("| type | stored | asked | N | configuration | offset | memcpy ms | plain C ms | edf ms | edf / memcpy | edf / C |\n");
+    printf("|---|---|---|---|---|---|---|---|---|---|---|\n");
     for (int type = 0; type < 4; type++) {
         size_t side = 2048;
         for (int reversed = 0; reversed < 2; reversed++) {
             measure(type, reversed, 0, 2, side, side, 1, 1, 0);
             for (int c = 2; c <= 8; c++) measure(type, reversed, 0, 2, side, side, 1, c, 0);
         }
-        measure(type, 0, 0, 2, side, side, 1, 1, 10);
+        for (int low = 0; low < 2; low++)
+            for (int asked = 0; asked < 2; asked++) measure(type, low, asked, 2, side, side, 1, 1, low ? -10 : 10);
+        measure(type, 1, 1, 2, side, side, 1, 2, 10);
         measure(type, 1, 0, 2, side, side, 1, 6, -10);
     }
-    measure(4, 0, 0, 2, 2048, 2048, 1, 1, 10);
-    measure(5, 1, 0, 2, 2048, 2048, 1, 1, -10);
+    for (int type = 4; type < 6; type++) {
+        measure(type, 0, 0, 2, 2048, 2048, 1, 1, 10);
+        measure(type, 1, 1, 2, 2048, 2048, 1, 1, -10);
+    }
     int cubes[] = {1, 17, 33, 48};
     for (int i = 0; i < 4; i++) measure(1, 0, 0, 3, 256, 256, 64, cubes[i], 0);
     printf("\n| writing 2048 by 2048 UnsignedShort | configuration | write ms | read_array ms | write / read |\n|---|---|---|---|---|\n");

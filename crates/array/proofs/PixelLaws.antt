@@ -10,7 +10,7 @@ use lib.Dec.{ltb}
 use lib.IntN.{ℤ}
 use lib.ListN.{length, take, drop, replicate}
 use Rattle.scan.specs.Buffer.{over}
-use Rattle.scan.proofs.Cases.{clash}
+use Rattle.scan.proofs.Cases.{both-true}
 use Rattle.raster.specs.Bytes.{lowFirst, numberOf, joined}
 use Rattle.raster.specs.Element.{offsetBits, elementBits, elementBytes}
 use Rattle.raster.specs.Strided.{Octets, Inside3, deliveredAt}
@@ -83,10 +83,6 @@ unfolding numberOf
 number-low l = refl
 
 -- ---- An index
-
-both-true : (a b : Bool) → a && b ≡ true → (a ≡ true) × (b ≡ true)
-both-true true b e = (refl, e)
-both-true false b e = absurd (clash false e refl)
 
 pub index-inside : (d : Description) (i1 i2 i3 : ℕ) → isIndex d i1 i2 i3 ≡ true → (i1 < d .dim1) × (i2 < d .dim2) × (i3 < d .dim3)
 unfolding isIndex

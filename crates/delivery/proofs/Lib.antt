@@ -1,4 +1,5 @@
 pub mod Conversions
+pub mod Flats
 pub mod Limits
 pub mod Planes
 pub mod Signs

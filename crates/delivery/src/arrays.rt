@@ -13,6 +13,7 @@ ghost use Rattle.scan.specs.Buffer.{over};
 ghost use Rattle.raster.specs.Strided.{Inside, Inside2, Inside3, Width, rowOf, planeOf, cubeOf, deliveredAt};
 ghost use Rattle.raster.specs.Types.{typeOf};
 ghost use Rattle.delivery.specs.Converting.{converted};
+ghost use Rattle.delivery.specs.Flat.{flat};
 
 // A row: by the loop for what its elements need.
 fn row(src: &[u8], c: Conversion, at: usize, up: usize, down: usize, n: usize, out: &mut [u8])
@@ -34,7 +35,7 @@ fn row(src: &[u8], c: Conversion, at: usize, up: usize, down: usize, n: usize, o
 }
 
 // n2 rows, one after the other.
-fn plane(src: &[u8], c: Conversion, at: usize, t: Steps, n1: usize, n2: usize, out: &mut [u8])
+fn rows(src: &[u8], c: Conversion, at: usize, t: Steps, n1: usize, n2: usize, out: &mut [u8])
     requires { ⌜ Width (c .width) ⌝ }
     requires { ⌜ Inside2 at (t .up1) (t .down1) n1 (t .up2) (t .down2) n2 (c .width) (length (now src)) ⌝ }
     requires { ⌜ length (now out) ≡ c .width * n1 * n2 ⌝ }
@@ -50,6 +51,38 @@ fn plane(src: &[u8], c: Conversion, at: usize, t: Steps, n1: usize, n2: usize, o
         o = e;
         i += 1;
     }
+}
+
+// Whether the rows of a plane stand one after another.
+fn is_flat(w: usize, n1: usize, t: Steps) -> bool
+    requires { ⌜ w * n1 < 2 ^ 64 ⌝ }
+    ensures { λ r. ⌜ r ≡ flat w n1 t ⌝ }
+{
+    if t.up1 != w {
+        return false;
+    }
+    if t.down1 != 0 {
+        return false;
+    }
+    if t.down2 != 0 {
+        return false;
+    }
+    t.up2 == w * n1
+}
+
+// A plane: as one row, where its rows stand one after another.
+fn plane(src: &[u8], c: Conversion, at: usize, t: Steps, n1: usize, n2: usize, out: &mut [u8])
+    requires { ⌜ Width (c .width) ⌝ }
+    requires { ⌜ Inside2 at (t .up1) (t .down1) n1 (t .up2) (t .down2) n2 (c .width) (length (now src)) ⌝ }
+    requires { ⌜ (c .width * n1 < 2 ^ 64) × (length (now out) ≡ c .width * n1 * n2) ⌝ }
+    ensures { λ _. ⌜ now (out .exit) ≡ planeOf (converted c) (c .width) (now (src .entry)) at (t .up1) (t .down1) n1 (t .up2) (t .down2) n2 ⌝ }
+{
+    let w = c.width;
+    if is_flat(w, n1, t) {
+        row(src, c, at, w, 0, n1 * n2, out);
+        return;
+    }
+    rows(src, c, at, t, n1, n2, out);
 }
 
 // n3 planes, one after the other, at the front of `out`.

@@ -8,12 +8,12 @@ use native.Mathlib.Nat.{le-antisymm, mul-zero, mul-suc, zero-mul}
 use native.Mathlib.Numerals.{add-one}
 use native.Mathlib.Omega.{arith}
 use lib.ListN.{length, take, drop, set, getD, length-take, length-drop}
-use lib.Seq.{take-suc, take-add, getD-drop, drop-length, drop-drop}
+use lib.Seq.{take-suc, take-add, take-take, getD-drop, drop-length, drop-drop}
 use Rattle.scan.specs.Buffer.{over}
 use Rattle.raster.specs.Bytes.{joined}
 use Rattle.raster.specs.Strided.{turned, patched, place, Inside, Width, rowOf}
 use Rattle.raster.proofs.RoundTrip.{length-turned}
-use Rattle.elements.proofs.Filling.{over-set, joined-same, length-joined, piece-more, pieces-done, rest-length, two-parts}
+use Rattle.elements.proofs.Filling.{over-set, over-part, joined-same, length-joined, piece-more, pieces-done, rest-length, two-parts, mul-next}
 
 -- The bytes of an element that stands inside are w.
 pub length-element : (w : ℕ) (s : List ℕ) (p : ℕ) → p + w ≤ length s → length (take w (drop p s)) ≡ w
@@ -65,7 +65,7 @@ run-done s at i d l k h j e =
     ∙ ap (λ (x : List ℕ). take (length d) (drop at s) ++ x) (drop-length d) ∙ append-nil (take (length d) (drop at s))
 
 -- Elements that stand one after another are a run.
-flat : (w : ℕ) (s : List ℕ) (at n : ℕ) → rowOf (turned false) w s at w 0 n ≡ take (w * n) (drop at s)
+pub flat : (w : ℕ) (s : List ℕ) (at n : ℕ) → rowOf (turned false) w s at w 0 n ≡ take (w * n) (drop at s)
 unfolding rowOf joined
 flat w s at zero = ap (λ (k : ℕ). take k (drop at s)) (sym (mul-zero w))
 flat w s at (suc n) =
@@ -121,26 +121,39 @@ unfolding rowOf
 either-order w s at up down n e =
     joined-same n _ _ (λ i h. one (take w (drop (place at up down i) s)) (simp length-take (omega arith)))
 
--- A run in two parts: m times sixteen bytes, and what is left.
-module _ (s : List ℕ) (at m : ℕ) (d p : List ℕ) (room : 16 * m ≤ length d) (inside : length d ≤ length s - at)
-    (first : p ≡ rowOf (turned false) 16 s at 16 0 m) where
-  first-is : p ≡ take (16 * m) (drop at s)
-  first-is = first ∙ flat 16 s at m
-
-  first-length : length p ≡ 16 * m
-  first-length = ap length first-is ∙ simp (length-take, length-drop) (omega arith)
+-- A run in two parts: h bytes, and what is left.
+module _ (s : List ℕ) (at h : ℕ) (d p : List ℕ) (room : h ≤ length d) (inside : length d ≤ length s - at) (first : p ≡ take h (drop at s)) where
+  first-length : length p ≡ h
+  first-length = ap length first ∙ simp (length-take, length-drop) (omega arith)
 
   abbrev begun : List ℕ
-  begun = patched 0 (16 * m - 0) d p
+  begun = patched 0 (h - 0) d p
 
-  pub run-whole : (q : List ℕ) → q ≡ take (length (take (length begun - 16 * m) (drop (16 * m) begun))) (drop (at + 16 * m) s)
-      → patched (16 * m) (length begun - 16 * m) begun q ≡ take (length d) (drop at s)
+  pub run-whole : (q : List ℕ) → q ≡ take (length (take (length begun - h) (drop h begun))) (drop (at + h) s)
+      → patched h (length begun - h) begun q ≡ take (length d) (drop at s)
   run-whole q e =
-      let n = length d - 16 * m in
+      let n = length d - h in
       let t = drop at s in
-      let b : q ≡ take n (drop (16 * m) t) =
-      e ∙ ap (λ (k : ℕ). take k (drop (at + 16 * m) s)) (rest-length d p (16 * m) room first-length)
-      ∙ ap (take n) (sym (drop-drop (16 * m) at s)) in
-      let z : 16 * m + n ≡ length d = omega arith in
-      two-parts d p (16 * m) room first-length q (ap length b ∙ simp (length-take, length-drop) (omega arith))
-      ∙ (λ i. first-is i ++ b i) ∙ sym (take-add (16 * m) n t) ∙ ap (λ (i : ℕ). take i t) z
+      let b : q ≡ take n (drop h t) =
+      e ∙ ap (λ (k : ℕ). take k (drop (at + h) s)) (rest-length d p h room first-length)
+      ∙ ap (take n) (sym (drop-drop h at s)) in
+      let z : h + n ≡ length d = omega arith in
+      two-parts d p h room first-length q (ap length b ∙ simp (length-take, length-drop) (omega arith))
+      ∙ (λ i. first i ++ b i) ∙ sym (take-add h n t) ∙ ap (λ (i : ℕ). take i t) z
+
+-- A block of b bytes by way of an array of as many.
+pub through : (s : List ℕ) (at b n m : ℕ) (h r : List ℕ) → n ≡ b → m ≡ b → h ≡ take n (drop at s) → r ≡ take m (drop 0 h) → r ≡ take b (drop at s)
+through s at b n m h r en em eh er =
+    er ∙ (λ j. take (em j) (eh j)) ∙ ap (λ (k : ℕ). take b (take k (drop at s))) en ∙ take-take b b (drop at s) (omega arith)
+
+-- A turn of the loop over blocks of b bytes: the next block is written.
+pub block-more : (s : List ℕ) (at b i k : ℕ) (d l q : List ℕ) → b * i + b ≤ length s - at → k ≡ b → l ≡ over (take (b * i) (drop at s)) d
+    → q ≡ take b (drop (at + b * i) s) → patched (b * i) k l q ≡ over (take (b * (i + 1)) (drop at s)) d
+block-more s at b i k d l q h e g r =
+    let t = drop at s in
+    let x : q ≡ take b (drop (b * i) t) = r ∙ ap (take b) (sym (drop-drop (b * i) at s)) in
+    let m : length (take (b * i) t) ≡ b * i = simp (length-take, length-drop) (omega arith) in
+    let n : length q ≡ k = ap length x ∙ simp (length-take, length-drop) (omega arith) in
+    over-part (take (b * i) t) q d l (b * i) k g m n
+    ∙ ap (λ (y : List ℕ). over y d)
+    (ap (λ (y : List ℕ). take (b * i) t ++ y) x ∙ sym (take-add (b * i) b t) ∙ ap (λ (j : ℕ). take j t) (mul-next b i (b * i) refl))

@@ -8,16 +8,13 @@ use native.Mathlib.Omega.{arith}
 use borrow.Author.Tests.{eqb-true, leb-true}
 use lib.Dec.{eqb, leb}
 use lib.ListN.{length, getD}
+use Rattle.scan.proofs.Cases.{both-true}
 use Rattle.scan.specs.Byte.{same}
 use Rattle.scan.proofs.Below.{all-at}
 use Rattle.text.specs.Text.{every}
 use Rattle.text.proofs.Words.{Word, wordByte, word}
 use Rattle.raster.specs.Types.{types, typeOf, typeWords, orderWords, codeFrom, codeOf}
 use Rattle.writer.proofs.Allowed.{Within}
-
-pub and-both : (a b : Bool) → (a && b) ≡ true → (a ≡ true) × (b ≡ true)
-and-both true b e = (refl, e)
-and-both false b e = absurd (false≢true e)
 
 -- A word of at most 20 bytes with a code.
 abbrev isCode : ℕ → Option ℕ → Bool
@@ -38,9 +35,9 @@ coded words code w = every wordByte w && (leb 1 (length w) && (leb (length w) 20
 
 coded-says : (words : List (List ℕ)) (code : ℕ) (w : List ℕ) → coded words code w ≡ true → Coded words code w
 coded-says words code w e =
-    let a = and-both (every wordByte w) _ e in
-    let b = and-both (leb 1 (length w)) _ (a .1) in
-    let c = and-both (leb (length w) 20) _ (b .1) in
+    let a = both-true (every wordByte w) _ e in
+    let b = both-true (leb 1 (length w)) _ (a .1) in
+    let c = both-true (leb (length w) 20) _ (b .1) in
     record { is-word = word w (leb-true 1 (length w) (b .0)) (a .0); short = leb-true (length w) 20 (c .0); code-is = code-is code (codeOf words w) (c .1) }
 
 from-one : {most code : ℕ} (P : ℕ → Type 0) → Within 1 most code → ((k : ℕ) → k < most → P (suc k)) → P code

@@ -8,6 +8,7 @@ use native.Mathlib.Omega.{arith}
 use borrow.Author.Tests.{le-leb, lt-leb}
 use lib.Dec.{eqb, leb}
 use lib.ListN.{length, length-append}
+use Rattle.scan.proofs.Cases.{both-true}
 use Rattle.scan.specs.Outcome.{Outcome, ok, refused, require, _>>_}
 use Rattle.text.specs.Text.{every, textByte, shortText, escapeWith, escapedBody, quotedText}
 use Rattle.text.specs.Escapes.{letter}
@@ -19,7 +20,6 @@ use Rattle.writer.specs.Stored.{shapeDims, IsShape}
 use Rattle.writer.specs.declared.Frame.{Frame}
 use Rattle.writer.specs.declared.dims.Shape.{Shape}
 use Rattle.writer.proofs.Allowed.{Allowed}
-use Rattle.writer.proofs.Codes.{and-both}
 use Rattle.writer.proofs.StoredOrder.{few-product}
 use Rattle.writer.proofs.HeaderLaws.{titled-length, closed-length, header-is}
 
@@ -61,10 +61,10 @@ module _ (f : Frame) (title pixels : List ℕ) where
 
   module _ (e : arguments ≡ true) where
     pub frame-passes : frameAllowed f ≡ true
-    frame-passes = and-both (frameAllowed f) _ (and-both (frameAllowed f && eqb (length pixels) (product (frameDims f) * frameType f .width)) _ e .0) .0
+    frame-passes = both-true (frameAllowed f) _ (both-true (frameAllowed f && eqb (length pixels) (product (frameDims f) * frameType f .width)) _ e .0) .0
 
     pub length-passes : eqb (length pixels) (product (frameDims f) * frameType f .width) ≡ true
-    length-passes = and-both (frameAllowed f) _ (and-both (frameAllowed f && eqb (length pixels) (product (frameDims f) * frameType f .width)) _ e .0) .1
+    length-passes = both-true (frameAllowed f) _ (both-true (frameAllowed f && eqb (length pixels) (product (frameDims f) * frameType f .width)) _ e .0) .1
 
     pub too-long : 1073741824 < length (fileOf f title pixels) → writtenFile f title pixels ≡ refused 24 0
     unfolding writtenFile

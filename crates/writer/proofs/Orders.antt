@@ -7,6 +7,7 @@ use native.Mathlib.Omega.{arith}
 use borrow.Author.Tests.{eqb-true}
 use lib.Dec.{eqb}
 use lib.ListN.{length, getD}
+use Rattle.scan.proofs.Cases.{both-true}
 use Rattle.scan.proofs.Below.{all-at}
 use Rattle.raster.specs.Axis.{Axis, forward, configurations, insertWithAfter, orderFrom, orderOf}
 use Rattle.raster.specs.Position.{indexOf}
@@ -14,7 +15,6 @@ use Rattle.raster.specs.Strides.{axisOf, axesOf}
 use Rattle.raster.specs.declared.configuration.Direction.{Direction}
 use Rattle.raster.specs.declared.configuration.Order.{Order}
 use Rattle.writer.specs.Stored.{axisAt}
-use Rattle.writer.proofs.Codes.{and-both}
 
 pub data Permutes : ℕ → ℕ → ℕ → Type 0 where
   p123 : Permutes 1 2 3
@@ -32,8 +32,8 @@ is-case a b c x y z rest p e more = by (is a b c x y z) refl e
   where
     by : (t : Bool) → is a b c x y z ≡ t → (t || rest) ≡ true → Permutes a b c
     by true q h =
-        let one = and-both (eqb a x) _ q in
-        let two = and-both (eqb b y) _ (one .1) in
+        let one = both-true (eqb a x) _ q in
+        let two = both-true (eqb b y) _ (one .1) in
         rw (eqb-true a x (one .0), eqb-true b y (two .0), eqb-true c z (two .1)) p
     by false q h = more h
 
@@ -71,10 +71,10 @@ module _ (number : ℕ) (some : 1 ≤ number) (few : number ≤ 48) where
 
   pub order-axes : orderOf 3 number ≡ axisAt number 0 ∷ axisAt number 1 ∷ axisAt number 2 ∷ []
   unfolding axisAt
-  order-axes = three-of (orderOf 3 number) (eqb-true (length (orderOf 3 number)) 3 (and-both (eqb (length (orderOf 3 number)) 3) _ tested .0))
+  order-axes = three-of (orderOf 3 number) (eqb-true (length (orderOf 3 number)) 3 (both-true (eqb (length (orderOf 3 number)) 3) _ tested .0))
 
   pub order-permutes : Permutes (axisIndex number 0) (axisIndex number 1) (axisIndex number 2)
-  order-permutes = permutes-says _ _ _ (and-both (eqb (length (orderOf 3 number)) 3) _ tested .1)
+  order-permutes = permutes-says _ _ _ (both-true (eqb (length (orderOf 3 number)) 3) _ tested .1)
 
 -- ---- The order of a configuration, in code
 

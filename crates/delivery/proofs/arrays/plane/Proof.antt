@@ -1,122 +1,64 @@
--- `delivery::arrays::plane` meets its contract. The invariant: the first i rows are written.
-use mathlib.Core.Path.{_≡_, refl, sym, ap, subst, _∙_}
-use mathlib.Core.List.{List}
-use Prim.Native.Nat.{ℕ, _+_, _*_, _-_, _≤_}
+-- `delivery::arrays::plane` meets its contract: as one row, or row by row.
+use mathlib.Core.Path.{sym, _∙_}
 use native.Mathlib.Omega.{arith}
-use borrow.Author.Needs.{needs}
-use lib.ListN.{length, length-take, length-drop}
-use Rattle.scan.specs.Buffer.{over}
-use Rattle.raster.specs.Bytes.{joined}
-use Rattle.raster.specs.Strided.{place, Inside, rowOf, planeOf}
-use Rattle.elements.proofs.Filling.{piece-more, pieces-done, mul-room, mul-next}
+use lib.ListN.{length}
 use Rattle.delivery.specs.Converting.{converted}
-use Rattle.delivery.proofs.Planes.{length-rows}
+use Rattle.delivery.proofs.Flats.{flat-inside, flat-row, fewer}
+use Rattle.delivery.proofs.Limits.{width-some}
+use borrow.Author.Needs.{needs}
 use Rattle.delivery.proofs.arrays.plane.Statement.{statement}
 use Rattle.delivery.proofs.arrays.plane.Tie as tie
 
-abbrev Inv-loop : tie.InvT-loop
-Inv-loop src c at t n1 n2 out₀ w i₀ o₀ out i o =
-    (i ≤ n2) × (o ≡ c .width * n1 * i) × (length out ≡ length out₀) × (out ≡ over (planeOf (converted c) (c .width) src at (t .up1) (t .down1) n1 (t .up2) (t .down2) i) out₀)
+is-flat-requires : tie.Need-is-flat-requires
+is-flat-requires c κs = search needs
 
-abbrev μ-loop : tie.MeasureT-loop
-μ-loop src c at t n1 n2 out₀ w i₀ o₀ out i o = n2 - i
-
--- The next row is within the buffer.
-room : (c : tie.In-loop Inv-loop μ-loop)
-    → let a = c .before .before .before .before .args in a .c .width * a .n1 * c .before .loop .i + a .c .width * a .n1 ≤ length (a .out .now)
-room c =
-    let l = c .before in
-    let s = l .before .before .before in
+mul-row : tie.Need-mul-row
+mul-row c =
+    let s = c .before .before .before .before in
     let a = s .args in
-    omega (arith, mul-room (a .c .width * a .n1) (l .loop .i) (a .n2) (c .loop-test .taken))
+    omega (arith, fewer (a .c .width) (a .n1) (a .n2) (length (a .out .now)) (width-some (s .pre .0) .0) (s .pre .1 .1 .1) .0)
 
-loop-holds : tie.Need-loop-holds Inv-loop μ-loop
-unfolding planeOf joined
-loop-holds c = (search needs, search needs, refl, refl)
-
-spot-requires : tie.Need-spot-requires Inv-loop μ-loop
-spot-requires c κs = c .before .before .before .before .pre .1 .0 (c .before .loop .i) (c .loop-test .taken) .0
-
-mul-e : tie.Need-mul-e Inv-loop μ-loop
-mul-e c = omega (arith, room (c .before))
-
-add-e : tie.Need-add-e Inv-loop μ-loop
-add-e c = omega (arith, room (c .before))
-
-sub-row : tie.Need-sub-row Inv-loop μ-loop
-sub-row c = omega (arith, room (c .before))
-
-part-row-start : tie.Need-part-row-start Inv-loop μ-loop
-part-row-start c = omega (arith, room (c .before))
-
-part-row-end : tie.Need-part-row-end Inv-loop μ-loop
-part-row-end c = omega (arith, room (c .before))
-
-row-requires : tie.Need-row-requires Inv-loop μ-loop
+row-requires : tie.Need-row-requires
 row-requires c κs =
-    let p = c .before in
-    let l = p .before .before in
-    let s = l .before .before .before in
-    let a = s .args in
-    let h = s .pre .1 .0 (l .loop .i) (p .before .loop-test .taken) in (
+    let t = c .before in
+    let s = t .before .before .before .before in
+    let a = s .args in (
       s .pre .0,
       (
-        subst (λ (k : ℕ). Inside k (a .t .up1) (a .t .down1) (a .n1) (a .c .width) (length (a .src .now))) (sym (p .spot .ensures .0)) (h .1),
-        simp (length-take, length-drop) (omega (arith, room (p .before))),
+        flat-inside (a .c .width) (a .n1) (a .n2) (a .at) (a .t) (sym (t .before .is-flat .ensures) ∙ t .if1 .taken) (length (a .src .now)) (s .pre .1 .0),
+        fewer (a .c .width) (a .n1) (a .n2) (length (a .out .now)) (width-some (s .pre .0) .0) (s .pre .1 .1 .1) .1,
       ),
     )
 
-add-i : tie.Need-add-i Inv-loop μ-loop
-add-i c = omega arith
+same-length : tie.Need-same-length
+same-length c = search needs
 
-loop-less : tie.Need-loop-less Inv-loop μ-loop
-loop-less c = omega arith
-
-loop-again : tie.Need-loop-again Inv-loop μ-loop
-unfolding planeOf
-loop-again c =
-    let r = c .before .before in
-    let p = r .before .before in
-    let l = p .before .before in
-    let s = l .before .before .before in
-    let a = s .args in
-    let f : ℕ → List ℕ = λ (j : ℕ). rowOf (converted (a .c)) (a .c .width) (a .src .now) (place (a .at) (a .t .up2) (a .t .down2) j) (a .t .up1) (a .t .down1) (a .n1) in (
-      omega arith,
-      mul-next (a .c .width * a .n1) (l .loop .i) (l .loop .o) (l .loop .inv .1),
-      c .before .out .given .1 ∙ l .loop .inv .2,
-      piece-more f (a .c .width * a .n1) (a .n2) (a .out .now) (length-rows (a .c) (a .src .now) (a .at) (a .t .up1) (a .t .down1) (a .n1) (a .t .up2) (a .t .down2) (a .n2) (s .pre .1 .0)) (l .loop .i) (l .loop .o) (l .loop .o + a .c .width * a .n1 - l .loop .o) _ _ (p .before .loop-test .taken)
-          (l .loop .inv .3) (l .loop .inv .1) (omega arith) (r .row .ensures ∙ ap (λ (k : ℕ). rowOf (converted (a .c)) (a .c .width) (a .src .now) k (a .t .up1) (a .t .down1) (a .n1)) (p .spot .ensures .0)),
-    )
-
-same-length : tie.Need-same-length Inv-loop μ-loop
-same-length c = omega arith
-
-returns : tie.Need-returns Inv-loop μ-loop
-unfolding planeOf
+returns : tie.Need-returns
 returns c =
-    let l = c .before in
-    let s = l .before .before .before in
+    let r = c .before .before in
+    let t = r .before .before in
+    let s = t .before .before .before .before in
     let a = s .args in
-    let f : ℕ → List ℕ = λ (j : ℕ). rowOf (converted (a .c)) (a .c .width) (a .src .now) (place (a .at) (a .t .up2) (a .t .down2) j) (a .t .up1) (a .t .down1) (a .n1) in
-    pieces-done f (a .c .width * a .n1) (a .n2) (a .out .now) (length-rows (a .c) (a .src .now) (a .at) (a .t .up1) (a .t .down1) (a .n1) (a .t .up2) (a .t .down2) (a .n2) (s .pre .1 .0)) (l .loop .i) _ (l .loop .inv .0) (c .loop-test .left) (s .pre .1 .1)
-    (l .loop .inv .3)
+    r .row .ensures ∙ flat-row (a .c .width) (a .n1) (a .n2) (a .at) (a .t) (sym (t .before .is-flat .ensures) ∙ t .if1 .taken) (converted (a .c)) (a .src .now)
+
+rows-requires : tie.Need-rows-requires
+rows-requires c κs = search needs
+
+same-length-2 : tie.Need-same-length-2
+same-length-2 c = search needs
+
+returns-2 : tie.Need-returns-2
+returns-2 c = search needs
 
 pub plane-spec : {M : Type 1} → statement M
 plane-spec =
     tie.close
     (tie.spec
-    Inv-loop
-    μ-loop
-    loop-holds
-    spot-requires
-    mul-e
-    add-e
-    sub-row
-    part-row-start
-    part-row-end
+    is-flat-requires
+    mul-row
     row-requires
-    add-i
-    loop-less
-    loop-again
     same-length
-    returns)
+    returns
+    rows-requires
+    same-length-2
+    returns-2)

@@ -1,5 +1,5 @@
 -- `elements::runs::run` meets its contract: two parts of the buffer are written.
-use Prim.Native.Nat.{_/_}
+use Prim.Native.Nat.{_*_, _/_}
 use native.Mathlib.Omega.{arith}
 use lib.ListN.{length}
 use Rattle.elements.proofs.RowLaws.{run-whole}
@@ -10,32 +10,32 @@ use Rattle.elements.proofs.runs.run.Tie as tie
 mul-h : tie.Need-mul-h
 mul-h c = search needs
 
-sub-kept16 : tie.Need-sub-kept16
-sub-kept16 c = search needs
+sub-blocks : tie.Need-sub-blocks
+sub-blocks c = search needs
 
-part-kept16-start : tie.Need-part-kept16-start
-part-kept16-start c = search needs
+part-blocks-start : tie.Need-part-blocks-start
+part-blocks-start c = search needs
 
-part-kept16-end : tie.Need-part-kept16-end
-part-kept16-end c = search needs
+part-blocks-end : tie.Need-part-blocks-end
+part-blocks-end c = search needs
 
-kept16-requires : tie.Need-kept16-requires
-kept16-requires c κs = search needs
+blocks-requires : tie.Need-blocks-requires
+blocks-requires c κs = search needs
 
-add-bytes : tie.Need-add-bytes
-add-bytes c = search needs
+add-short-run : tie.Need-add-short-run
+add-short-run c = search needs
 
-sub-bytes : tie.Need-sub-bytes
-sub-bytes c = search needs
+sub-short-run : tie.Need-sub-short-run
+sub-short-run c = search needs
 
-part-bytes-start : tie.Need-part-bytes-start
-part-bytes-start c = search needs
+part-short-run-start : tie.Need-part-short-run-start
+part-short-run-start c = search needs
 
-part-bytes-end : tie.Need-part-bytes-end
-part-bytes-end c = search needs
+part-short-run-end : tie.Need-part-short-run-end
+part-short-run-end c = search needs
 
-bytes-requires : tie.Need-bytes-requires
-bytes-requires c κs = search needs
+short-run-requires : tie.Need-short-run-requires
+short-run-requires c κs = search needs
 
 same-length : tie.Need-same-length
 same-length c = search needs
@@ -46,22 +46,23 @@ returns c =
     let k = b .before .before .before .before in
     let s = k .before .before .before .before in
     let a = s .args in
-    run-whole (a .src .now) (a .at) (length (a .out .now) / 16) (a .out .now) _ (omega arith) (s .pre) (k .kept16 .ensures) _
-    (b .bytes .ensures)
+    let h = 8192 * (length (a .out .now) / 8192) in
+    run-whole (a .src .now) (a .at) h (a .out .now) _ (omega arith) (s .pre)
+    (k .blocks2 .ensures) _ (b .short-run .ensures)
 
 pub run-spec : {M : Type 1} → statement M
 run-spec =
     tie.close
     (tie.spec
     mul-h
-    sub-kept16
-    part-kept16-start
-    part-kept16-end
-    kept16-requires
-    add-bytes
-    sub-bytes
-    part-bytes-start
-    part-bytes-end
-    bytes-requires
+    sub-blocks
+    part-blocks-start
+    part-blocks-end
+    blocks-requires
+    add-short-run
+    sub-short-run
+    part-short-run-start
+    part-short-run-end
+    short-run-requires
     same-length
     returns)

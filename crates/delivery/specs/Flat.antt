@@ -1,0 +1,9 @@
+-- Planes whose rows stand one after another.
+use mathlib.Core.Bool.{Bool, _&&_}
+use Prim.Native.Nat.{ℕ, _*_}
+use lib.Dec.{eqb}
+use Rattle.raster.specs.declared.stride.Steps.{Steps}
+
+-- Rows of n elements of w bytes stand one after another.
+unfoldable pub flat : ℕ → ℕ → Steps → Bool
+flat w n t = eqb (t .up1) w && (eqb (t .down1) 0 && (eqb (t .down2) 0 && eqb (t .up2) (w * n)))
