@@ -27,7 +27,7 @@ ghost use Rattle.array.specs.Reading.{deliveredIn, sampledIn};
 ghost use Rattle.array.specs.Valid.{ValidArray};
 
 // The data of a block.
-fn data_of(file: &[u8], b: Block) -> &[u8]
+pub fn data_of(file: &[u8], b: Block) -> &[u8]
     requires { ⌜ b .row .start + b .row .header + b .row .size ≤ length (now file) ⌝ }
     ensures { λ r. ⌜ now r ≡ dataOf (now (file .entry)) (viewAt (now (file .entry)) b) ⌝ }
 {

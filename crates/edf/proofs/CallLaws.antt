@@ -9,6 +9,7 @@ use lib.IntN.{ℤ}
 use lib.ListN.{length, take, drop}
 use lib.Seq.{take-at, drop-at}
 use Rattle.scan.specs.Buffer.{lengthWritten, bufferAfter}
+use Rattle.scan.specs.Byte.{partOf}
 use Rattle.scan.specs.Outcome.{Outcome, ok, failed, require, _>>_}
 use Rattle.scan.specs.declared.Error.{Error}
 use Rattle.scan.specs.declared.Span.{Span}
@@ -48,9 +49,15 @@ use Rattle.raster.specs.Pixels.{pixelOf}
 use Rattle.raster.specs.Position.{product}
 use Rattle.raster.specs.Strided.{Octets}
 use Rattle.raster.specs.declared.Pixel.{Pixel}
+use Rattle.elements.proofs.RowLaws.{length-element}
+use Rattle.stored.specs.Stored.{storedArray, storedOutcome}
+use Rattle.stored.specs.declared.Stored.{Stored}
+use Rattle.stored.specs.declared.Stored.the-variants as stored
+use Rattle.stored.specs.declared.StoredArray.{StoredArray}
+use Rattle.stored.proofs.Laws.{stored-seen}
 use Rattle.writer.specs.declared.Frame.{Frame}
 use Rattle.writer.proofs.Allowed as writer
-use Rattle.edf.specs.Calls.{IntoBuffer, Open, Describe, ReadArray}
+use Rattle.edf.specs.Calls.{IntoBuffer, Open, Describe, ReadArray, Stores}
 use Rattle.edf.proofs.OpeningLaws.{opens-as, counts-failed}
 
 -- ---- The answer by its outcome
@@ -102,6 +109,14 @@ sampledBy (failed e) = sampled.Failed e
 pub sampled-by : (r : Sampled) {o : Outcome Pixel} → sampledOutcome r ≡ o → r ≡ sampledBy o
 sampled-by (sampled.Value p) e = ap sampledBy e
 sampled-by (sampled.Failed x) e = ap sampledBy e
+
+abbrev pub storedBy : Outcome StoredArray → Stored
+storedBy (ok a) = stored.Array a
+storedBy (failed e) = stored.Failed e
+
+pub stored-by : (r : Stored) {o : Outcome StoredArray} → storedOutcome r ≡ o → r ≡ storedBy o
+stored-by (stored.Array a) e = ap storedBy e
+stored-by (stored.Failed x) e = ap storedBy e
 
 -- ---- A call that writes
 
@@ -226,6 +241,21 @@ module _ (s : List ℕ) (block order : ℕ) {d : Description} {before after : Li
       let r = wrote (arrayIn s block order) read in
       pixel-of-array s block order _ (take n after) (a .1) (r .bytes) octets i1 i2 i3 (index-test d i1 i2 i3 h1 h2 h3)
 
+-- A call of `stored_array`.
+module _ {s : List ℕ} {block order : ℕ} {a : StoredArray} (call : Stores s block order (stored.Array a)) where
+  pub stored-description : descriptionOf s block ≡ ok (a .description)
+  stored-description = stored-seen s block order a (sym (call .answers)) .0
+
+  pub stored-long : a .span .length ≡ product (arrayDims (a .description)) * arrayType (a .description) .width
+  stored-long = stored-seen s block order a (sym (call .answers)) .1 .0
+
+  pub stored-within : a .span .offset + a .span .length ≤ length s
+  stored-within = stored-seen s block order a (sym (call .answers)) .1 .1
+
+  pub part-long : length (partOf s (a .span)) ≡ a .span .length
+  unfolding partOf
+  part-long = rw (le-leb (a .span .offset + a .span .length) (length s) stored-within) (length-element (a .span .length) s (a .span .offset) stored-within)
+
 -- ---- Opening
 
 -- What `open` gives for a file with a partition.
@@ -279,6 +309,10 @@ module _ {s : List ℕ} {table left : List Row} {x : Error} (rows : 256 ≤ leng
 
   pub array-refused : (order : ℕ) → arrayIn s block order ≡ failed x
   array-refused order = sym (no-array s block (no-block s block (sym no-view)) order)
+
+  pub stored-refused : (order : ℕ) → storedArray s block order ≡ failed x
+  unfolding storedArray
+  stored-refused order = rw no-view
 
   pub pixel-refused : (i1 i2 i3 : ℕ) → pixelIn s block i1 i2 i3 ≡ failed x
   pixel-refused i1 i2 i3 = sym (no-pixel s block (no-block s block (sym no-view)) i1 i2 i3)

@@ -28,11 +28,12 @@ use Rattle.keyword.specs.Keyword.{View, entriesAt, generalEntries, isGeneral, v
 use Rattle.raster.specs.Position.{product}
 use Rattle.array.specs.Delivery.{isOrder, isIndex, arrayOf, arrayIn, pixelIn}
 use Rattle.array.specs.Describe.{descriptionIn, descriptionOf}
+use Rattle.stored.specs.Stored.{storedWith, storedArray}
 use Rattle.writer.specs.File.{frameDims, frameType, frameAllowed, fileOf, writtenFile}
 use Rattle.writer.specs.declared.Frame.{Frame}
 use Rattle.listing.proofs.DescriptionErrors.{FieldError, description-errors}
 use Rattle.listing.proofs.ErrorLaws.{Errors, no-error, one-error, presence, checks, steps}
-use Rattle.edf.specs.Codes.{within, openCodes, findCodes, numberCodes, textCodes, describeCodes, arrayCodes, pixelCodes, writeCodes, listCodes, IsCodes, of-open, of-find, of-number, of-text, of-describe, of-array, of-pixel, of-write, of-list}
+use Rattle.edf.specs.Codes.{within, openCodes, findCodes, numberCodes, textCodes, describeCodes, arrayCodes, storedCodes, pixelCodes, writeCodes, listCodes, IsCodes, of-open, of-find, of-number, of-text, of-describe, of-array, of-stored, of-pixel, of-write, of-list}
 
 -- All errors of a definition have codes that pass a test.
 abbrev Coded : (ℕ → Bool) → Error → Type 0
@@ -153,6 +154,10 @@ array-all : (c : ℕ) → 3 ≤ c → c ≤ 21 → arrayCodes c ≡ true
 unfolding arrayCodes
 array-all c l h = or-left (describeCodes c) (eqb c 24 || eqb c 22) (describe-all c l h)
 
+stored-all : (c : ℕ) → 3 ≤ c → c ≤ 21 → storedCodes c ≡ true
+unfolding storedCodes
+stored-all c l h = or-left (describeCodes c) (eqb c 24) (describe-all c l h)
+
 pixel-all : (c : ℕ) → 3 ≤ c → c ≤ 21 → pixelCodes c ≡ true
 unfolding pixelCodes
 pixel-all c l h = or-left (describeCodes c) (eqb c 23) (describe-all c l h)
@@ -174,6 +179,13 @@ module _ (s : List ℕ) (block : ℕ) where
   describe-gives =
       steps (Coded describeCodes) (viewOf s block) _ (view-gives describeCodes 21 (omega arith) refl describe-all s block)
       (λ b. described-gives describeCodes 21 (omega arith) refl describe-all (omega arith) b)
+
+  pub stored-gives : (order : ℕ) → Gives storedCodes (storedArray s block order)
+  unfolding storedArray storedWith storedCodes describeCodes
+  stored-gives order =
+      steps (Coded storedCodes) (viewOf s block) _ (view-gives storedCodes 21 (omega arith) refl stored-all s block)
+      (λ b. steps (Coded storedCodes) (descriptionIn b) _ (described-gives storedCodes 21 (omega arith) refl stored-all (omega arith) b)
+      (λ d. checks (Coded storedCodes) (isOrder order) 24 0 _ refl (no-error (Coded storedCodes) _)))
 
   pub pixel-gives : (i1 i2 i3 : ℕ) → Gives pixelCodes (pixelIn s block i1 i2 i3)
   unfolding pixelIn pixelCodes describeCodes
@@ -249,13 +261,14 @@ module _ (d : List ℕ) where
 -- ---- Code 0
 
 pub no-zero : (t : ℕ → Bool) → IsCodes t → t 0 ≡ false
-unfolding openCodes findCodes numberCodes textCodes describeCodes arrayCodes pixelCodes writeCodes listCodes
+unfolding openCodes findCodes numberCodes textCodes describeCodes arrayCodes storedCodes pixelCodes writeCodes listCodes
 no-zero t of-open = refl
 no-zero t of-find = refl
 no-zero t of-number = refl
 no-zero t of-text = refl
 no-zero t of-describe = refl
 no-zero t of-array = refl
+no-zero t of-stored = refl
 no-zero t of-pixel = refl
 no-zero t of-write = refl
 no-zero t of-list = refl

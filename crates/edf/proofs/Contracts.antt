@@ -11,7 +11,7 @@ use contract.Monad.{Fun, fact, factI, fact-mono, fact-use}
 use denote.Ref.{now}
 use denote.Triple.Clauses.{Ended, AtExit, Clauses}
 use denote.Triple.Entry.{Args, Res}
-use Rattle.edf.specs.Calls.{Open, Find, WholeNumber, Text, Escape, Unescape, Describe, ReadArray, ReadPixel, Write, Lists}
+use Rattle.edf.specs.Calls.{Open, Find, WholeNumber, Text, Escape, Unescape, Describe, ReadArray, Stores, ReadPixel, Write, Lists}
 use Rattle.edf.proofs.open as open′
 use Rattle.edf.proofs.find as find
 use Rattle.edf.proofs.whole_number as whole-number
@@ -20,6 +20,7 @@ use Rattle.edf.proofs.escape as escape
 use Rattle.edf.proofs.unescape as unescape
 use Rattle.edf.proofs.describe as describe
 use Rattle.edf.proofs.read_array as read-array
+use Rattle.edf.proofs.stored_array as stored-array
 use Rattle.edf.proofs.read_pixel as read-pixel
 use Rattle.edf.proofs.write as write
 use Rattle.edf.proofs.list as list
@@ -64,6 +65,9 @@ module _ {M : Type 1} (𝓤 : URA M) (H : Heap 𝓤) (A : Atoms 𝓤) (mem : Mem
   pub arrays : Gives read-array.ended (read-array.clauses 𝓤 H A mem run)
       (λ κs a r e. ReadArray (now (a .0)) (a .1 .0) (a .1 .1 .0) (now (a .1 .1 .1 .0)) r (now (e .1 .1 .1 .0)))
   arrays κs a g r e = both 𝓤 (λ x y. record { answers = x; leaves = y })
+
+  pub stores : Gives stored-array.ended (stored-array.clauses 𝓤 H A mem run) (λ κs a r e. Stores (now (a .0)) (a .1 .0) (a .1 .1 .0) r)
+  stores κs a g r e = both 𝓤 (λ x y. record { answers = x; delivers = y })
 
   pub pixels : Gives read-pixel.ended (read-pixel.clauses 𝓤 H A mem run)
       (λ κs a r e. ReadPixel (now (a .0)) (a .1 .0) (a .1 .1 .0) (a .1 .1 .1 .0) (a .1 .1 .1 .1 .0) r)

@@ -8,7 +8,7 @@ use Prim.Native.Nat.{ℕ, _+_, _*_, _≤_, _<_}
 use native.Mathlib.Omega.{arith}
 use lib.IntN.{pos}
 use lib.ListN.{length, take, drop}
-use Rattle.scan.specs.Byte.{ascii}
+use Rattle.scan.specs.Byte.{ascii, partOf}
 use Rattle.scan.specs.Outcome.{Outcome, ok}
 use Rattle.scan.specs.declared.Error.{Error}
 use Rattle.text.specs.Decimal.{decimal}
@@ -33,6 +33,9 @@ use Rattle.array.specs.declared.Described.the-variants as described
 use Rattle.array.specs.declared.Description.{Description}
 use Rattle.array.specs.declared.Sampled.{Sampled}
 use Rattle.array.specs.declared.Sampled.the-variants as sampled
+use Rattle.stored.specs.declared.Stored.{Stored}
+use Rattle.stored.specs.declared.Stored.the-variants as stored
+use Rattle.stored.specs.declared.StoredArray.{StoredArray}
 use Rattle.writer.specs.File.{frameDims, frameType, writtenFile}
 use Rattle.writer.specs.declared.Frame.{Frame}
 use Rattle.writer.proofs.Allowed.{Writes, written-says, written-is}
@@ -42,12 +45,13 @@ use Rattle.writer.proofs.Pixels.{Inside, positionIn, pixel}
 use Rattle.writer.proofs.Written.{Fits, rowOf}
 use Rattle.listing.specs.Listing.{line, arrayColumns, rowColumns, countLine, listing}
 use Rattle.listing.proofs.OneBlock.{one-block-listing}
-use Rattle.edf.specs.Codes.{openCodes, findCodes, numberCodes, textCodes, describeCodes, arrayCodes, pixelCodes, writeCodes, listCodes, IsCodes}
-use Rattle.edf.specs.Calls.{IntoBuffer, Open, Find, WholeNumber, Text, Escape, Unescape, Describe, ReadArray, ReadPixel, Write, Lists}
-use Rattle.edf.proofs.CallLaws.{opened-by, located-by, number-by, described-by, sampled-by}
+use Rattle.edf.specs.Codes.{openCodes, findCodes, numberCodes, textCodes, describeCodes, arrayCodes, storedCodes, pixelCodes, writeCodes, listCodes, IsCodes}
+use Rattle.edf.specs.Calls.{IntoBuffer, Open, Find, WholeNumber, Text, Escape, Unescape, Describe, ReadArray, Stores, ReadPixel, Write, Lists}
+use Rattle.edf.proofs.CallLaws.{opened-by, located-by, number-by, described-by, sampled-by, stored-by}
 use Rattle.edf.proofs.CallLaws.{with-room, wrote, kept, refused-by, same-written, unescaped-back, delivered-length, delivered-pixel}
-use Rattle.edf.proofs.CallLaws.{opens-rows, file-small, not-found, no-number, no-text, no-description, array-refused, pixel-refused}
-use Rattle.edf.proofs.CodeLaws.{open-gives, find-gives, number-gives, describe-gives, pixel-gives, text-gives, array-read-gives, escape-gives, unescape-gives, write-gives, list-gives, no-zero}
+use Rattle.edf.proofs.CallLaws.{opens-rows, file-small, not-found, no-number, no-text, no-description, array-refused, stored-refused, pixel-refused}
+use Rattle.edf.proofs.CallLaws.{stored-description, stored-long, stored-within, part-long}
+use Rattle.edf.proofs.CodeLaws.{open-gives, find-gives, number-gives, describe-gives, pixel-gives, text-gives, array-read-gives, stored-gives, escape-gives, unescape-gives, write-gives, list-gives, no-zero}
 use Rattle.edf.proofs.OpeningLaws.{opens-as}
 
 -- ---- What is written reads back, for every frame, title and pixels: all types, one to three dimensions, every configuration
@@ -141,6 +145,26 @@ module _ (s : List ℕ) (block order : ℕ) (d : Description) (before after : Li
   pixel-of-array {i1} {i2} {i3} {r} octets h1 h2 h3 c =
       sampled-by r (c .answers ∙ delivered-pixel s block order describe read octets i1 i2 i3 h1 h2 h3)
 
+-- ---- An array that is stored as it is delivered is the part of the file at its span
+
+-- A call of `stored_array`, in either byte order.
+module _ (s : List ℕ) (block order : ℕ) (a : StoredArray) (call : Stores s block order (stored.Array a)) where
+  -- The description is that of `describe`,
+  pub stored-describes : {r : Described} → Describe s block r → r ≡ described.Array (a .description)
+  stored-describes {r} c = described-by r (c .answers ∙ stored-description call)
+
+  -- the span is as long as it says, and lies inside the file;
+  pub stored-span : (a .span .length ≡ product (arrayDims (a .description)) * arrayType (a .description) .width)
+      × (a .span .offset + a .span .length ≤ length s)
+  stored-span = (stored-long call, stored-within call)
+
+  -- and where the answer says that the array is stored as it is delivered, `read_array` gives the bytes there.
+  pub stored-reads : a .delivered ≡ true → {before after : List ℕ} {r : Written} → a .span .length ≤ length before
+      → ReadArray s block order before r after
+      → let bytes = partOf s (a .span) in
+      (r ≡ Length (length bytes)) × (after ≡ bytes ++ drop (length bytes) before)
+  stored-reads same h c = with-room (call .delivers same) (omega (arith, part-long call)) c
+
 -- ---- Every file has a listing
 
 -- `list` writes it, and its length, into every buffer of 75,292 bytes or more.
@@ -176,6 +200,9 @@ module _ {s : List ℕ} {table left : List Row} {x : Error} (rows : 256 ≤ leng
       → (r ≡ Failed x) × (after ≡ before)
   array-refuses order c = refused-by (array-refused rows refuses block order) c
 
+  pub stored-refuses : {order : ℕ} {r : Stored} → Stores s block order r → r ≡ stored.Failed x
+  stored-refuses {order} {r} c = stored-by r (c .answers ∙ stored-refused rows refuses block order)
+
   pub pixel-refuses : {i1 i2 i3 : ℕ} {r : Sampled} → ReadPixel s block i1 i2 i3 r → r ≡ sampled.Failed x
   pixel-refuses {i1} {i2} {i3} {r} c = sampled-by r (c .answers ∙ pixel-refused rows refuses block i1 i2 i3)
 
@@ -193,6 +220,9 @@ module _ {s : List ℕ} {block : ℕ} {x : Error} where
 
   pub describe-codes : Describe s block (described.Failed x) → describeCodes (x .code) ≡ true
   describe-codes c = describe-gives s block .hold (sym (c .answers))
+
+  pub stored-codes : {order : ℕ} → Stores s block order (stored.Failed x) → storedCodes (x .code) ≡ true
+  stored-codes {order} c = stored-gives s block order .hold (sym (c .answers))
 
   pub pixel-codes : {i1 i2 i3 : ℕ} → ReadPixel s block i1 i2 i3 (sampled.Failed x) → pixelCodes (x .code) ≡ true
   pixel-codes {i1} {i2} {i3} c = pixel-gives s block i1 i2 i3 .hold (sym (c .answers))
@@ -234,6 +264,9 @@ one-number {r = r} {q = q} c d = number-by r (c .answers) ∙ sym (number-by q (
 
 pub one-description : {s : List ℕ} {block : ℕ} {r q : Described} → Describe s block r → Describe s block q → r ≡ q
 one-description {r = r} {q = q} c d = described-by r (c .answers) ∙ sym (described-by q (d .answers))
+
+pub one-stored : {s : List ℕ} {block order : ℕ} {r q : Stored} → Stores s block order r → Stores s block order q → r ≡ q
+one-stored {r = r} {q = q} c d = stored-by r (c .answers) ∙ sym (stored-by q (d .answers))
 
 pub one-pixel : {s : List ℕ} {block i1 i2 i3 : ℕ} {r q : Sampled} → ReadPixel s block i1 i2 i3 r → ReadPixel s block i1 i2 i3 q → r ≡ q
 one-pixel {r = r} {q = q} c d = sampled-by r (c .answers) ∙ sym (sampled-by q (d .answers))

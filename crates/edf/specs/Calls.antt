@@ -22,6 +22,8 @@ use Rattle.array.specs.Delivery.{arrayIn, pixelIn}
 use Rattle.array.specs.Describe.{descriptionOf}
 use Rattle.array.specs.declared.Described.{Described}
 use Rattle.array.specs.declared.Sampled.{Sampled}
+use Rattle.stored.specs.Stored.{storedArray, storedOutcome, Delivers}
+use Rattle.stored.specs.declared.Stored.{Stored}
 use Rattle.writer.specs.File.{writtenFile}
 use Rattle.writer.specs.declared.Frame.{Frame}
 use Rattle.listing.specs.Listing.{listing, FitsListing}
@@ -64,6 +66,11 @@ pub record Describe (file : List ℕ) (block : ℕ) (r : Described) : Type 0 whe
 -- read_array(file, block, order, out)
 abbrev pub ReadArray : List ℕ → ℕ → ℕ → List ℕ → Written → List ℕ → Type 0
 ReadArray file block order = IntoBuffer (arrayIn file block order)
+
+-- stored_array(file, block, order)
+pub record Stores (file : List ℕ) (block order : ℕ) (r : Stored) : Type 0 where
+  pub answers : storedOutcome r ≡ storedArray file block order
+  pub delivers : Delivers file block order r
 
 -- read_pixel(file, block, i1, i2, i3)
 pub record ReadPixel (file : List ℕ) (block i1 i2 i3 : ℕ) (r : Sampled) : Type 0 where

@@ -30,6 +30,10 @@ describeCodes c = eqb c 1 || within 3 21 c
 unfoldable pub arrayCodes : ℕ → Bool
 arrayCodes c = describeCodes c || (eqb c 24 || eqb c 22)
 
+-- stored_array: 24 besides.
+unfoldable pub storedCodes : ℕ → Bool
+storedCodes c = describeCodes c || eqb c 24
+
 -- read_pixel: 23 besides.
 unfoldable pub pixelCodes : ℕ → Bool
 pixelCodes c = describeCodes c || eqb c 23
@@ -50,6 +54,7 @@ pub data IsCodes : (ℕ → Bool) → Type 0 where
   of-text : IsCodes textCodes
   of-describe : IsCodes describeCodes
   of-array : IsCodes arrayCodes
+  of-stored : IsCodes storedCodes
   of-pixel : IsCodes pixelCodes
   of-write : IsCodes writeCodes
   of-list : IsCodes listCodes

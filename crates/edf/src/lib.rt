@@ -8,6 +8,7 @@ use blocks::Row;
 use keyword::Located;
 use keyword::Number;
 use scan::Span;
+use stored::Stored;
 use text::Written;
 use writer::Frame;
 ghost use mathlib.Core.Path.{_≡_};
@@ -24,6 +25,7 @@ ghost use Rattle.keyword.specs.Keyword.{found, valueFound, wholeNumberOf, textI
 ghost use Rattle.array.specs.Answers.{describedOutcome, sampledOutcome};
 ghost use Rattle.array.specs.Delivery.{arrayIn, pixelIn};
 ghost use Rattle.array.specs.Describe.{descriptionOf};
+ghost use Rattle.stored.specs.Stored.{storedArray, storedOutcome, Delivers};
 ghost use Rattle.writer.specs.File.{writtenFile};
 ghost use Rattle.listing.specs.Listing.{listing, FitsListing};
 ghost use Rattle.edf.specs.Opening.{OpensAs};
@@ -110,6 +112,16 @@ pub fn read_array(file: &[u8], block: usize, order: u8, out: &mut [u8]) -> Writt
     ensures { λ _. ⌜ now (out .exit) ≡ bufferAfter (arrayIn (now (file .entry)) block order) (now (out .entry)) ⌝ }
 {
     array::read::read_array(file, block, order, out)
+}
+
+// The array of a block as it is stored: its description, the span of its bytes in the file, and whether these are just the bytes that
+// `read_array` gives in a byte order, 1 or 2. Where they are, `part` hands the array back, with nothing copied. Errors: those of
+// `describe`; 24 no such order.
+pub fn stored_array(file: &[u8], block: usize, order: u8) -> Stored
+    ensures { λ r. ⌜ storedOutcome r ≡ storedArray (now (file .entry)) block order ⌝ }
+    ensures { λ r. ⌜ Delivers (now (file .entry)) block order r ⌝ }
+{
+    stored::stored_array(file, block, order)
 }
 
 // One pixel of a block's array: its value at an index of three numbers, those past the array's dimensions being 0. Errors:

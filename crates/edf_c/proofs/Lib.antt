@@ -1,4 +1,5 @@
 pub mod Answering
 pub mod Fields
 pub mod Sampling
+pub mod Storing
 pub mod Tabling

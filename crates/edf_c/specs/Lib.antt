@@ -1,4 +1,5 @@
 pub mod Answers
 pub mod Fields
 pub mod Samples
+pub mod Stored
 pub mod Table

@@ -10,6 +10,7 @@ use keyword::Located;
 use keyword::Number;
 use raster::Pixel;
 use scan::Span;
+use stored::Stored;
 use text::Written;
 use writer::Frame;
 ghost use mathlib.Core.Path.{_≡_};
@@ -23,11 +24,13 @@ ghost use Rattle.blocks.specs.Opening.{openedInto, countOf};
 ghost use Rattle.keyword.specs.Keyword.{found, valueFound, wholeNumberOf, textIn};
 ghost use Rattle.array.specs.Describe.{descriptionOf};
 ghost use Rattle.array.specs.Delivery.{arrayIn, pixelIn};
+ghost use Rattle.stored.specs.Stored.{storedArray};
 ghost use Rattle.writer.specs.File.{writtenFile};
 ghost use Rattle.listing.specs.Listing.{listing, FitsListing};
 ghost use Rattle.edf_c.specs.Answers.{codeOf, valueAfter, positionAfter, withValue};
 ghost use Rattle.edf_c.specs.Fields.{frameOf, fieldsOf, spanOf};
 ghost use Rattle.edf_c.specs.Samples.{sampleOf, sampleAfter};
+ghost use Rattle.edf_c.specs.Stored.{flag, storedOf, inNumbers, DeliveredAt};
 ghost use Rattle.edf_c.specs.Table.{numbersAfter};
 
 // The array of a block in a byte order, at the front of the lent buffer: `edf::read_array`.
@@ -273,6 +276,67 @@ pub extern "C" fn edf_describe(
             0
         }
         Described::Failed(e) => {
+            *position = e.position;
+            e.code
+        }
+    }
+}
+
+// A flag as a number.
+fn flag_of(b: bool) -> u8
+    ensures { λ r. ⌜ r ≡ flag b ⌝ }
+{
+    if b { 1 } else { 0 }
+}
+
+// The array of a block as it is stored: `edf::stored_array`. Its description field by field, its span, and 1 or 0 for whether the
+// bytes there are those that `edf_read_array` gives.
+#[no_mangle]
+pub extern "C" fn edf_stored_array(
+    file: &[u8],
+    block: usize,
+    order: u8,
+    datatype: &mut u8,
+    byteorder: &mut u8,
+    compression: &mut u8,
+    n: &mut u8,
+    dim1: &mut usize,
+    dim2: &mut usize,
+    dim3: &mut usize,
+    configuration: &mut u32,
+    orientation: &mut u32,
+    offset: &mut i64,
+    start: &mut usize,
+    length: &mut usize,
+    delivered: &mut u8,
+    position: &mut usize,
+) -> u8
+    ensures { λ r. ⌜ r ≡ codeOf (storedArray (now (file .entry)) block order) ⌝ }
+    ensures { λ _. ⌜ storedOf (fieldsOf (now (datatype .exit)) (now (byteorder .exit)) (now (compression .exit)) (now (n .exit)) (now (dim1 .exit)) (now (dim2 .exit)) (now (dim3 .exit)) (now (configuration .exit)) (now (orientation .exit)) (now (offset .exit))) (spanOf (now (start .exit)) (now (length .exit))) (now (delivered .exit)) ≡ valueAfter (inNumbers (storedArray (now (file .entry)) block order)) (storedOf (fieldsOf (now (datatype .entry)) (now (byteorder .entry)) (now (compression .entry)) (now (n .entry)) (now (dim1 .entry)) (now (dim2 .entry)) (now (dim3 .entry)) (now (configuration .entry)) (now (orientation .entry)) (now (offset .entry))) (spanOf (now (start .entry)) (now (length .entry))) (now (delivered .entry))) ⌝ }
+    ensures { λ _. ⌜ now (position .exit) ≡ positionAfter (storedArray (now (file .entry)) block order) (now (position .entry)) ⌝ }
+    ensures { λ r. ⌜ DeliveredAt (now (file .entry)) block order r (spanOf (now (start .exit)) (now (length .exit))) (now (delivered .exit)) ⌝ }
+{
+    match edf::stored_array(file, block, order) {
+        Stored::Array(a) => {
+            let d = a.description;
+            let p = a.span;
+            *datatype = d.datatype;
+            *byteorder = d.byteorder;
+            *compression = d.compression;
+            *n = d.n;
+            *dim1 = d.dim1;
+            *dim2 = d.dim2;
+            *dim3 = d.dim3;
+            *configuration = d.configuration;
+            *orientation = d.orientation;
+            let shift = d.offset;
+            *offset = shift;
+            *start = p.offset;
+            *length = p.length;
+            *delivered = flag_of(a.delivered);
+            0
+        }
+        Stored::Failed(e) => {
             *position = e.position;
             e.code
         }
