@@ -1,4 +1,4 @@
--- Records that a call gets or gives field by field: the fields that have a sign are the same numbers after they are stored.
+-- Records that a call gets field by field: the fields that have a sign are the same numbers after they are stored.
 use mathlib.Core.Path.{_≡_}
 use mathlib.Core.List.{List}
 use Prim.Native.Nat.{ℕ}
@@ -6,10 +6,9 @@ use lib.IntN.{ℤ}
 use Rattle.scan.specs.Outcome.{Outcome}
 use Rattle.scan.specs.Buffer.{lengthWritten, bufferAfter}
 use Rattle.text.proofs.Buffers.{of-equal}
-use Rattle.array.specs.declared.Description.{Description}
 use Rattle.writer.specs.File.{writtenFile}
 use Rattle.writer.specs.declared.Frame.{Frame}
-use Rattle.edf_c.specs.Fields.{frameOf, fieldsOf}
+use Rattle.edf_c.specs.Fields.{frameOf}
 
 -- What is answered for a frame is answered for its fields.
 module _ (f : Frame) where
@@ -23,12 +22,3 @@ module _ (f : Frame) where
       → (r ≡ lengthWritten (writtenFile (signed sequence memory) title pixels) before)
       × (after ≡ bufferAfter (writtenFile (signed sequence memory) title pixels) before)
   of-fields before title pixels h s m = of-equal _ _ _ (λ i. writtenFile (signed (s i) (m i)) title pixels) h
-
--- A description is made of its fields.
-module _ (d : Description) where
-  abbrev shifted : ℤ → Description
-  shifted offset =
-      fieldsOf (d .datatype) (d .byteorder) (d .compression) (d .n) (d .dim1) (d .dim2) (d .dim3) (d .configuration) (d .orientation) offset
-
-  pub same-description : {offset : ℤ} → offset ≡ d .offset → shifted offset ≡ d
-  same-description q = λ i. shifted (q i)

@@ -39,8 +39,7 @@ module _ (s : List ℕ) (block order : ℕ) (v : StoredNumbers) (p : ℕ) {r : S
   pub stores-none : {e : Error} → r ≡ stored.Failed e → Stores s block order v p (e .code) v (e .position)
   stores-none {e} q =
       let o : failed e ≡ storedArray s block order = sym (ap storedOutcome q) ∙ h .0 in
-      let coded : storedCodes (e .code) ≡ true = stored-gives s block order .hold (sym o) in
-      (
+      let coded : storedCodes (e .code) ≡ true = stored-gives s block order .hold (sym o) in (
         ap codeOf o,
         (
           ap (λ (x : Outcome StoredArray). valueAfter (inNumbers x) v) o,

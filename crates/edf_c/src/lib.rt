@@ -4,6 +4,7 @@
 mod table;
 
 use array::Described;
+use array::Description;
 use array::Sampled;
 use blocks::Opened;
 use keyword::Located;
@@ -239,6 +240,35 @@ pub extern "C" fn edf_find(
     }
 }
 
+// A description into the numbers that are lent for its fields.
+fn put_description(
+    d: Description,
+    datatype: &mut u8,
+    byteorder: &mut u8,
+    compression: &mut u8,
+    n: &mut u8,
+    dim1: &mut usize,
+    dim2: &mut usize,
+    dim3: &mut usize,
+    configuration: &mut u32,
+    orientation: &mut u32,
+    offset: &mut i64,
+)
+    ensures { λ _. ⌜ fieldsOf (now (datatype .exit)) (now (byteorder .exit)) (now (compression .exit)) (now (n .exit)) (now (dim1 .exit)) (now (dim2 .exit)) (now (dim3 .exit)) (now (configuration .exit)) (now (orientation .exit)) (now (offset .exit)) ≡ d ⌝ }
+{
+    *datatype = d.datatype;
+    *byteorder = d.byteorder;
+    *compression = d.compression;
+    *n = d.n;
+    *dim1 = d.dim1;
+    *dim2 = d.dim2;
+    *dim3 = d.dim3;
+    *configuration = d.configuration;
+    *orientation = d.orientation;
+    let shift = d.offset;
+    *offset = shift;
+}
+
 // The description of a block's array, field by field: `edf::describe`.
 #[no_mangle]
 pub extern "C" fn edf_describe(
@@ -262,17 +292,19 @@ pub extern "C" fn edf_describe(
 {
     match edf::describe(file, block) {
         Described::Array(d) => {
-            *datatype = d.datatype;
-            *byteorder = d.byteorder;
-            *compression = d.compression;
-            *n = d.n;
-            *dim1 = d.dim1;
-            *dim2 = d.dim2;
-            *dim3 = d.dim3;
-            *configuration = d.configuration;
-            *orientation = d.orientation;
-            let shift = d.offset;
-            *offset = shift;
+            put_description(
+                d,
+                datatype,
+                byteorder,
+                compression,
+                n,
+                dim1,
+                dim2,
+                dim3,
+                configuration,
+                orientation,
+                offset,
+            );
             0
         }
         Described::Failed(e) => {
@@ -320,17 +352,19 @@ pub extern "C" fn edf_stored_array(
         Stored::Array(a) => {
             let d = a.description;
             let p = a.span;
-            *datatype = d.datatype;
-            *byteorder = d.byteorder;
-            *compression = d.compression;
-            *n = d.n;
-            *dim1 = d.dim1;
-            *dim2 = d.dim2;
-            *dim3 = d.dim3;
-            *configuration = d.configuration;
-            *orientation = d.orientation;
-            let shift = d.offset;
-            *offset = shift;
+            put_description(
+                d,
+                datatype,
+                byteorder,
+                compression,
+                n,
+                dim1,
+                dim2,
+                dim3,
+                configuration,
+                orientation,
+                offset,
+            );
             *start = p.offset;
             *length = p.length;
             *delivered = flag_of(a.delivered);

@@ -1,36 +1,35 @@
+-- `edf_c::edf_stored_array` meets its contract.
+use Rattle.edf_c.specs.Stored.{storedOf}
+use Rattle.edf_c.proofs.Storing.{stores, stores-none}
 use borrow.Author.Needs.{needs}
 use Rattle.edf_c.proofs.edf_stored_array.Statement.{statement}
 use Rattle.edf_c.proofs.edf_stored_array.Tie as tie
-use Rattle.edf_c.proofs.edf_stored_array.Reads as reads
-use Rattle.edf_c.proofs.edf_stored_array.Lts as lts
-use Rattle.edf.proofs.stored_array.Reads as stored-array-reads
-use Rattle.edf_c.proofs.flag_of.Reads as flag-of-reads
 
--- src/lib.rt:319:11
 stored-array-requires : tie.Need-stored-array-requires
 stored-array-requires c κs = search needs
 
--- src/lib.rt:320:23
 enum-known-a : tie.Need-enum-known-a
 enum-known-a c = search needs
 
--- src/lib.rt:336:26
+put-description-requires : tie.Need-put-description-requires
+put-description-requires c κs = search needs
+
 flag-of-requires : tie.Need-flag-of-requires
 flag-of-requires c κs = search needs
 
--- src/lib.rt:339:24
 enum-known-e : tie.Need-enum-known-e
 enum-known-e c = search needs
 
--- src/lib.rt:294:1
 returns : tie.Need-returns
-returns c = search needs
+returns c =
+    let m = c .before .before .before .before .before .before .before .before .before .before .before .before .before .before .before in
+    stores _ _ _ _ _ (m .before .before .stored-array .ensures) (m .a .given .1)
+    (λ j. storedOf (c .before .put-description .ensures j) (m .a .given .0 .0 .span) (c .flag-of .ensures j))
 
--- src/lib.rt:294:1
 returns-2 : tie.Need-returns-2
-returns-2 c = search needs
+returns-2 c = stores-none _ _ _ _ _ (c .before .before .before .stored-array .ensures) (c .before .e .given .1)
 
 pub edf-stored-array-spec : {M : Type 1} → statement M
 edf-stored-array-spec =
     tie.close
-    (tie.spec stored-array-requires enum-known-a flag-of-requires enum-known-e returns returns-2)
+    (tie.spec stored-array-requires enum-known-a put-description-requires flag-of-requires enum-known-e returns returns-2)
