@@ -142,8 +142,7 @@ def one_image(folder, data_type, low_first, configuration=1, offset=0, side=2048
         return delivered(numpy.memmap(path, stored, "r", start, (side, side)), configuration, offset, copied=True)
 
     def by_edf():
-        with edf.open(path) as file:
-            return file.array(0)
+        return edf.read(path)
 
     plain = configuration == 1 and not offset
     expected = by_fromfile()

@@ -141,6 +141,14 @@ uint8_t edf_describe(const uint8_t *file, size_t file_length, size_t block, uint
 uint8_t edf_read_array(const uint8_t *file, size_t file_length, size_t block, uint8_t order, uint8_t *out, size_t out_length,
                        size_t *length, size_t *position);
 
+/* The array of a block as it is stored: its description, as edf_describe gives it, and its bytes, the *length bytes of the file from
+ * *start on. *delivered is 1 where these are just the bytes that edf_read_array gives in the byte order `order`, so that nothing
+ * need be copied; else 0. Errors: those of edf_describe, 24 (a bad order). */
+uint8_t edf_stored_array(const uint8_t *file, size_t file_length, size_t block, uint8_t order, uint8_t *datatype, uint8_t *byteorder,
+                         uint8_t *compression, uint8_t *n, size_t *dim1, size_t *dim2, size_t *dim3, uint32_t *configuration,
+                         uint32_t *orientation, int64_t *offset, size_t *start, size_t *length, uint8_t *delivered,
+                         size_t *position);
+
 /* One pixel of a block's array, at an index of three numbers from 0; those past the array's dimensions are 0. *class_ is
  * EDF_UNSIGNED, EDF_SIGNED, EDF_FLOAT32 or EDF_FLOAT64, and the number of that class is set; the numbers of the other classes stay
  * as they were. Errors: those of edf_describe, 23. */
@@ -166,6 +174,35 @@ uint8_t edf_write(int64_t sequence, uint8_t instance, int64_t memory, uint8_t da
 enum { EDF_NO_TEXT = 255 };
 uint8_t edf_keywords(const uint8_t *header, size_t header_length, uint8_t *out, size_t out_length, size_t *length, size_t *position);
 
+/* An image by the path of its file, on POSIX systems; no other program may change the file meanwhile. The errors are those of the
+ * calls above, or EDF_SYSTEM_ERROR: a call of the system failed, and errno says why.
+ *
+ * edf_image_open opens a regular file: its descriptor and `file_length`. Then one of two calls judges it, and describes the array of
+ * a block in a byte order (edf_stored_array): edf_image_map maps the file; edf_image_load reads it whole into `memory`, which is lent
+ * until the image is closed and has `file_length` bytes. edf_image_read puts the `length` bytes of the array at the front of `out`:
+ * where they are stored as they are asked for, they are read from the file, large ones by several threads at once; else
+ * edf_read_array makes them. edf_image_close lets all go; after an error of the calls between, too. */
+enum { EDF_SYSTEM_ERROR = 255 };
+typedef struct {
+    uint8_t datatype, byteorder, compression, n;
+    uint32_t configuration, orientation;
+    size_t dim1, dim2, dim3;
+    int64_t offset;
+    size_t start, length;
+    uint8_t delivered, order, mapped;
+    int descriptor;
+    size_t block, file_length;
+    const uint8_t *file;
+} edf_image;
+uint8_t edf_image_open(const char *path, edf_image *image);
+uint8_t edf_image_map(edf_image *image, size_t block, uint8_t order, size_t *position);
+uint8_t edf_image_load(edf_image *image, uint8_t *memory, size_t block, uint8_t order, size_t *position);
+uint8_t edf_image_read(const edf_image *image, uint8_t *out, size_t out_length, size_t *position);
+void edf_image_close(edf_image *image);
+
+/* The bytes of an open file from an offset on, large parts by several threads at once: EDF_OK, or EDF_SYSTEM_ERROR and errno, which is
+ * EIO where the file ends before. */
+uint8_t edf_read_bytes(int descriptor, uint64_t offset, uint8_t *out, size_t length);
 
 /* The words for the code of an error, which like those below live as long as the program; "no error" for 0, "unknown code" above 25. */
 const char *edf_words(uint8_t code);

@@ -2,11 +2,13 @@
 
     import edf
 
+    image = edf.read("image.edf")           # the array of its first block: a numpy array where numpy is installed, else bytes
+
     with edf.open("image.edf") as file:
         for block in file.blocks:
             print(block.number, block.identity)
         print(file.header(0)["Title"])      # header(n): a mapping from keys to text
-        image = file.array(0)               # a numpy array where numpy is installed, else bytes
+        image = file.array(0)               # as edf.read
         file.array(0, out=image)            # with numpy: the same into an array that is there, no new memory
         print(file.pixel(0, 2, 1))          # index 1 is 2, index 2 is 1
 
@@ -29,7 +31,7 @@ import os
 import stat
 import struct
 import sys
-from ctypes import POINTER, byref, c_char, c_char_p, c_double, c_float, c_int64, c_size_t, c_uint8, c_uint32, c_uint64, c_void_p
+from ctypes import POINTER, byref, c_char, c_char_p, c_double, c_float, c_int, c_int64, c_size_t, c_uint8, c_uint32, c_uint64, c_void_p
 from typing import NamedTuple, Optional, Tuple
 
 MOST_BLOCKS = 256
@@ -48,7 +50,14 @@ _TABLE_LENGTH = 7 * MOST_BLOCKS
 _Table = c_uint64 * (_TABLE_LENGTH + 2)  # of edf_open: the rows, and how many of them are blocks
 _FIELDS = struct.Struct("=B7xB7xB7xB7x3QI4xI4xqQ")
 _Fields = c_uint64 * (_FIELDS.size // 8)  # of edf_describe, in its order
+_STORED = struct.Struct("=B23xB7x3Q24x2QB7xQ")
+_Stored = c_uint64 * (_STORED.size // 8)  # of edf_stored_array, in its order; what is not asked for is passed over
+_IMAGE = struct.Struct("=B2xB12x3Q8x2QB")  # of an edf_image: data type, n, three Dims, start, length, delivered
+_IMAGE_SIZE, _FILE_LENGTH = 96, 10  # and where its file_length is
+_Image = c_uint64 * (_IMAGE_SIZE // 8 + 1)  # an edf_image and the position of an error
 _Length = c_uint64 * 2  # of edf_read_array
+_SYSTEM_ERROR = 255
+_SMALL = 6 << 20  # files of at most so many bytes are read whole by `read`: mapping them would take longer
 
 _Front = c_char * 0  # the front of a buffer, which may be empty
 
@@ -58,7 +67,7 @@ def _load():
     named = os.environ.get("EDF_LIBRARY")
     beside = [os.path.join(here, "libedf.so"), os.path.join(here, "..", "..", "target", "lib", "libedf.so")]
     paths = [named] if named else [path for path in beside if os.path.exists(path)] + ["libedf.so"]
-    library = ctypes.CDLL(paths[0])
+    library = ctypes.CDLL(paths[0], use_errno=True)
     bytes_in, number_out = [c_void_p, c_size_t], POINTER(c_size_t)
     keyword = bytes_in + [c_size_t] + bytes_in
     buffer_out = [c_void_p, c_size_t, number_out, number_out]
@@ -72,6 +81,12 @@ def _load():
         "edf_escape": bytes_in + buffer_out,
         "edf_unescape": bytes_in + buffer_out,
         "edf_describe": bytes_in + [c_size_t] + [c_void_p] * len(_Fields()),
+        "edf_stored_array": bytes_in + [c_size_t, c_uint8] + [c_void_p] * len(_Stored()),
+        "edf_image_open": [c_char_p, c_void_p],
+        "edf_image_map": [c_void_p, c_size_t, c_uint8, c_void_p],
+        "edf_image_load": [c_void_p, c_void_p, c_size_t, c_uint8, c_void_p],
+        "edf_image_read": [c_void_p, c_void_p, c_size_t, c_void_p],
+        "edf_read_bytes": [c_int, c_uint64, c_void_p, c_size_t],
         "edf_read_array": bytes_in + [c_size_t, c_uint8, c_void_p, c_size_t, c_void_p, c_void_p],
         "edf_read_pixel": bytes_in + [c_size_t] * 4
         + [POINTER(c_uint8), POINTER(c_uint64), POINTER(c_int64), POINTER(c_float), POINTER(c_double), number_out],
@@ -85,6 +100,7 @@ def _load():
                            ("edf_byteorder_name", c_uint8)):
         function = getattr(library, name)
         function.argtypes, function.restype = [argument], c_char_p
+    library.edf_image_close.argtypes, library.edf_image_close.restype = [c_void_p], None
     library.edf_part.argtypes, library.edf_part.restype = bytes_in + [c_size_t, c_size_t], c_size_t
     library.edf_datatype_width.argtypes, library.edf_datatype_width.restype = [c_uint8], c_size_t
     return library
@@ -356,6 +372,24 @@ def _described(place):
     return _FIELDS.unpack(fields)
 
 
+def _stored(place):
+    """Of a block's array in this machine's byte order: data type, n, three Dims, offset and length of its bytes, and whether they are
+    the array as it is delivered."""
+    address, length, number, _start, _owner = place
+    fields = _Stored()
+    first = ctypes.addressof(fields)
+    code = _library.edf_stored_array(address, length, number, _NATIVE_ORDER, *range(first, first + _STORED.size, 8))
+    if code:
+        raise EdfError(code, fields[-1])
+    return _STORED.unpack(fields)[:-1]
+
+
+def _system_error(path=None):
+    """The error of a call of the system that the library made."""
+    number = ctypes.get_errno()
+    return OSError(number, os.strerror(number), path)
+
+
 def _read(place, order, out, capacity):
     """Writes the array of a block to an address; the answer is the number of its bytes."""
     address, length, number, _start, _owner = place
@@ -369,11 +403,24 @@ def _read(place, order, out, capacity):
     return written[0]
 
 
+class _Descriptor:
+    """The descriptor of an open file, which is closed when nothing uses it any more."""
+
+    __slots__ = ("number",)
+
+    def __init__(self, number):
+        self.number = number
+
+    def __del__(self, close=os.close):
+        close(self.number)
+
+
 class File:
     """A file, opened: its bytes and its blocks. The bytes must not change while a call runs; they are not copied where they are
     bytes or a writable buffer."""
 
-    def __init__(self, data):
+    def __init__(self, data, _descriptor=None):
+        self._descriptor = _descriptor  # of the file that the bytes are mapped from
         self._bytes = address, length, _owner = _lent(data)
         self._rows = _opened(address, length)
         self._parts = {} if len(self._rows) > 1 else {0: (0, length, 0)}
@@ -388,7 +435,7 @@ class File:
 
     def close(self):
         """Lets the file's bytes go."""
-        self._bytes = None
+        self._bytes = self._descriptor = None
 
     def __enter__(self):
         return self
@@ -489,11 +536,10 @@ class File:
         place, numpy = self._place(block), _numpy()
         if numpy is None and out is not None:
             raise ValueError("out is for numpy arrays, and numpy is not installed: read_into takes other buffers")
-        datatype, _, _, n, dim1, dim2, dim3, *_ = _described(place)
+        datatype, n, dim1, dim2, dim3, start, length, delivered = _stored(place)
         if numpy is None:
-            data = bytearray(max(dim1 * dim2 * dim3 * _WIDTHS[datatype], 1))
-            owner = c_char.from_buffer(data)
-            length = _read(place, _NATIVE_ORDER, ctypes.addressof(owner), len(data))
+            data = bytearray(max(length, 1))
+            self._fill(place, start, length, delivered, c_char.from_buffer(data))
             return bytes(memoryview(data)[:length])
         shape, kind = (dim3, dim2, dim1)[3 - n :], _NUMPY_TYPES[datatype]
         if out is None:
@@ -502,9 +548,16 @@ class File:
                   and out.flags.writeable):
             raise ValueError("out must be a numpy array of shape %s, type %s and this machine's byte order, C-contiguous and writable"
                              % (shape, kind[1:]))
-        owner = _Front.from_buffer(out)
-        _read(place, _NATIVE_ORDER, ctypes.addressof(owner), out.nbytes)
+        self._fill(place, start, length, delivered, _Front.from_buffer(out))
         return out
+
+    def _fill(self, place, start, length, delivered, owner):
+        """Puts an array in this machine's byte order where `owner` is. Where it is stored so, its bytes are read from the file."""
+        descriptor = self._descriptor
+        if not delivered or descriptor is None:
+            _read(place, _NATIVE_ORDER, ctypes.addressof(owner), length)
+        elif _library.edf_read_bytes(descriptor.number, place[3] + start, ctypes.addressof(owner), length):
+            raise _system_error()
 
     def read_into(self, block, out, byte_order=_NATIVE):
         """The array of a block at the front of a writable buffer, as a bytearray or a contiguous numpy array; the answer is the
@@ -523,20 +576,69 @@ class File:
 def open(path):
     """Opens a file by its path. It is mapped, so that only what is asked for is read; no other program may change it meanwhile. A
     file that may change is read instead: edf.File(pathlib.Path(path).read_bytes())."""
-    descriptor = os.open(path, os.O_RDONLY)
+    descriptor = _Descriptor(os.open(path, os.O_RDONLY))
     try:
-        data = mmap.mmap(descriptor, 0, access=mmap.ACCESS_COPY)
+        data = mmap.mmap(descriptor.number, 0, access=mmap.ACCESS_COPY)
     except (OSError, ValueError):
-        status = os.fstat(descriptor)
+        status = os.fstat(descriptor.number)
         if stat.S_ISDIR(status.st_mode):
             raise IsADirectoryError(errno.EISDIR, os.strerror(errno.EISDIR), os.fspath(path)) from None
         if status.st_size != 0:
             raise
-        with io.open(descriptor, "rb", buffering=0, closefd=False) as stream:  # nothing to map: an empty file, or a pipe
+        with io.open(descriptor.number, "rb", buffering=0, closefd=False) as stream:  # nothing to map: an empty file, or a pipe
             data = stream.read()
+        descriptor = None
+    return File(data, descriptor)
+
+
+def read(path, block=0):
+    """The array of a block of a file by its path, as File.array gives it: the quickest way to one image. No other program may change
+    the file meanwhile."""
+    numpy, name, number = _numpy(), os.fsencode(path), operator.index(block)
+    if b"\0" in name:
+        raise ValueError("embedded null byte")
+    image = _Image()
+    address = ctypes.addressof(image)
+    if not 0 <= number < MOST_BLOCKS or _library.edf_image_open(name, address):
+        with open(path) as file:  # no number of a block, or no regular file: what `open` makes of it
+            return file.array(block)
+    try:
+        return (_loaded if numpy and image[_FILE_LENGTH] <= _SMALL else _mapped)(path, image, address, number, numpy)
     finally:
-        os.close(descriptor)
-    return File(data)
+        _library.edf_image_close(address)
+
+
+def _checked(code, path, image):
+    if code:
+        raise _system_error(path) if code == _SYSTEM_ERROR else EdfError(code, image[-1])
+
+
+def _loaded(path, image, address, number, numpy):
+    """An array of a file that is read whole. It is a part of the bytes read, where they hold it as it is asked for and little else."""
+    size = image[_FILE_LENGTH]
+    whole = numpy.empty(size + 63, "u1")
+    owner = _Front.from_buffer(whole)
+    memory = ctypes.addressof(owner)
+    front = -memory % 64  # bytes go quicker to a line of the caches than past one's start
+    _checked(_library.edf_image_load(address, memory + front, number, _NATIVE_ORDER, address + _IMAGE_SIZE), path, image)
+    datatype, n, dim1, dim2, dim3, start, length, delivered = _IMAGE.unpack_from(image)
+    shape, kind = (dim3, dim2, dim1)[3 - n :], _NUMPY_TYPES[datatype]
+    if delivered and start % 8 == 0 and 2 * length > size:
+        return numpy.ndarray(shape, kind, whole, front + start)
+    out = numpy.empty(shape, kind)
+    owner = _Front.from_buffer(out)
+    _checked(_library.edf_image_read(address, ctypes.addressof(owner), length, address + _IMAGE_SIZE), path, image)
+    return out
+
+
+def _mapped(path, image, address, number, numpy):
+    """An array of a file that is mapped."""
+    _checked(_library.edf_image_map(address, number, _NATIVE_ORDER, address + _IMAGE_SIZE), path, image)
+    datatype, n, dim1, dim2, dim3, _start, length, _delivered = _IMAGE.unpack_from(image)
+    out = numpy.empty((dim3, dim2, dim1)[3 - n :], _NUMPY_TYPES[datatype]) if numpy else bytearray(max(length, 1))
+    owner = _Front.from_buffer(out)
+    _checked(_library.edf_image_read(address, ctypes.addressof(owner), length, address + _IMAGE_SIZE), path, image)
+    return out if numpy else bytes(memoryview(out)[:length])
 
 
 def listing(data):

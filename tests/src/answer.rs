@@ -13,6 +13,7 @@ pub enum Call {
     Text { block: usize, key: Vec<u8>, room: usize },
     Describe { block: usize },
     ReadArray { block: usize, order: u8, room: usize },
+    StoredArray { block: usize, order: u8 },
     ReadPixel { block: usize, i1: usize, i2: usize, i3: usize },
     Escape { text: Vec<u8>, room: usize },
     Unescape { value: Vec<u8>, room: usize },
@@ -30,6 +31,8 @@ pub enum Answer {
     Bytes(Vec<u8>),
     Number(i64),
     Description(Description),
+    /// Where an array stands in its file; its bytes where they stand there as they are delivered.
+    Stored { description: Description, start: usize, length: usize, delivered: Option<Vec<u8>> },
     Unsigned(u64),
     Signed(i64),
     Float32(Option<u32>),
@@ -99,6 +102,12 @@ macro_rules! answer_function {
                 Call::ReadArray { block, order, room } => {
                     $reader::read_array(file, *block, *order, *room).map(Answer::Bytes)
                 }
+                Call::StoredArray { block, order } => $reader::stored_array(file, *block, *order).map(|a| Answer::Stored {
+                    description: description(a.description),
+                    start: a.start,
+                    length: a.length,
+                    delivered: a.delivered,
+                }),
                 Call::ReadPixel { block, i1, i2, i3 } => {
                     $reader::read_pixel(file, *block, *i1, *i2, *i3).map(pixel)
                 }

@@ -48,6 +48,11 @@ pub fn read_array(file: &[u8], block: usize, order: u8, room: usize) -> Result<V
     reader::read_array(file, block, order, room)
 }
 
+pub fn stored_array(file: &[u8], block: usize, order: u8) -> Result<Option<Vec<u8>>, Error> {
+    both(file, &Call::StoredArray { block, order });
+    reader::stored_array(file, block, order).map(|a| a.delivered)
+}
+
 pub fn read_pixel(file: &[u8], block: usize, i1: usize, i2: usize, i3: usize) -> Result<Pixel, Error> {
     both(file, &Call::ReadPixel { block, i1, i2, i3 });
     reader::read_pixel(file, block, i1, i2, i3)

@@ -35,6 +35,12 @@ extern "C" {
         file: *const u8, file_length: usize, block: usize, order: u8, out: *mut u8, out_length: usize, length: *mut usize,
         position: *mut usize,
     ) -> u8;
+    fn edf_stored_array(
+        file: *const u8, file_length: usize, block: usize, order: u8, datatype: *mut u8, byteorder: *mut u8,
+        compression: *mut u8, n: *mut u8, dim1: *mut usize, dim2: *mut usize, dim3: *mut usize, configuration: *mut u32,
+        orientation: *mut u32, offset: *mut i64, start: *mut usize, length: *mut usize, delivered: *mut u8,
+        position: *mut usize,
+    ) -> u8;
     fn edf_read_pixel(
         file: *const u8, file_length: usize, block: usize, i1: usize, i2: usize, i3: usize, class: *mut u8,
         unsigned: *mut u64, signed: *mut i64, float32: *mut f32, float64: *mut f64, position: *mut usize,
@@ -150,12 +156,14 @@ fn whole_number(file: &[u8], block: usize, key: &[u8]) -> Answer {
     }
 }
 
+/// What stands in the numbers of a description before a call.
+const NO_DESCRIPTION: Description = Description {
+    data_type: 99, order: 99, compression: 99, n: 99, dim_1: KEPT, dim_2: KEPT, dim_3: KEPT, configuration: 99,
+    orientation: 99, offset: KEPT as i64,
+};
+
 fn describe(file: &[u8], block: usize) -> Answer {
-    let before = Description {
-        data_type: 99, order: 99, compression: 99, n: 99, dim_1: KEPT, dim_2: KEPT, dim_3: KEPT, configuration: 99,
-        orientation: 99, offset: KEPT as i64,
-    };
-    let (mut d, mut position) = (before, KEPT);
+    let (mut d, mut position) = (NO_DESCRIPTION, KEPT);
     let code = unsafe {
         edf_describe(
             file.as_ptr(), file.len(), block, &mut d.data_type, &mut d.order, &mut d.compression, &mut d.n, &mut d.dim_1,
@@ -164,7 +172,31 @@ fn describe(file: &[u8], block: usize) -> Answer {
     };
     match code {
         0 => if_kept(position == KEPT, Answer::Description(d)),
-        code => if_kept(d == before, Answer::Failed { code, position }),
+        code => if_kept(d == NO_DESCRIPTION, Answer::Failed { code, position }),
+    }
+}
+
+fn stored_array(file: &[u8], block: usize, order: u8) -> Answer {
+    let (mut d, mut start, mut length, mut delivered, mut position) = (NO_DESCRIPTION, KEPT, KEPT, 99, KEPT);
+    let code = unsafe {
+        edf_stored_array(
+            file.as_ptr(), file.len(), block, order, &mut d.data_type, &mut d.order, &mut d.compression, &mut d.n,
+            &mut d.dim_1, &mut d.dim_2, &mut d.dim_3, &mut d.configuration, &mut d.orientation, &mut d.offset, &mut start,
+            &mut length, &mut delivered, &mut position,
+        )
+    };
+    if code != 0 {
+        let kept = d == NO_DESCRIPTION && (start, length, delivered) == (KEPT, KEPT, 99);
+        return if_kept(kept, Answer::Failed { code, position });
+    }
+    let bytes = file.get(start..start.saturating_add(length));
+    match (delivered, bytes) {
+        (_, None) => Answer::Broken("an array that is not inside the file"),
+        (0, _) => if_kept(position == KEPT, Answer::Stored { description: d, start, length, delivered: None }),
+        (1, Some(bytes)) => {
+            if_kept(position == KEPT, Answer::Stored { description: d, start, length, delivered: Some(bytes.to_vec()) })
+        }
+        _ => Answer::Broken("a flag that is neither 0 nor 1"),
     }
 }
 
@@ -225,6 +257,7 @@ pub fn answer(file: &[u8], call: &Call) -> Option<Answer> {
         Call::ReadArray { block, order, room } => into_buffer(*room, |out, room, length, position| unsafe {
             edf_read_array(bytes, size, *block, *order, out, room, length, position)
         }),
+        Call::StoredArray { block, order } => stored_array(file, *block, *order),
         Call::ReadPixel { block, i1, i2, i3 } => read_pixel(file, *block, *i1, *i2, *i3),
         Call::Escape { text, room } => into_buffer(*room, |out, room, length, position| unsafe {
             edf_escape(text.as_ptr(), text.len(), out, room, length, position)

@@ -22,6 +22,7 @@ fn name(call: &Call) -> &'static str {
         Call::Text { .. } => "text",
         Call::Describe { .. } => "describe",
         Call::ReadArray { .. } => "read_array",
+        Call::StoredArray { .. } => "stored_array",
         Call::ReadPixel { .. } => "read_pixel",
         Call::Escape { .. } => "escape",
         Call::Unescape { .. } => "unescape",
@@ -48,6 +49,8 @@ fn features(answer: &Answer) -> Vec<String> {
             let configuration = format!("N {} configuration {}", d.n, d.configuration);
             vec![format!("type {}", d.data_type), format!("order {}", d.order), configuration]
         }
+        Answer::Stored { delivered: Some(_), .. } => vec!["stored as delivered".to_string()],
+        Answer::Stored { delivered: None, .. } => vec!["stored otherwise".to_string()],
         Answer::Unsigned(_) => vec!["unsigned pixel".to_string()],
         Answer::Signed(_) => vec!["signed pixel".to_string()],
         Answer::Float32(_) => vec!["32-bit float pixel".to_string()],
@@ -58,7 +61,7 @@ fn features(answer: &Answer) -> Vec<String> {
 
 /// All features, with the least number of cases that are to show each.
 fn all_features() -> Vec<(String, usize)> {
-    let few = ["kind 1", "kind 2", "order 1", "order 2", "unsigned pixel", "signed pixel", "32-bit float pixel", "64-bit float pixel"];
+    let few = ["kind 1", "kind 2", "order 1", "order 2", "stored as delivered", "stored otherwise", "unsigned pixel", "signed pixel", "32-bit float pixel", "64-bit float pixel"];
     let mut all: Vec<(String, usize)> = few.map(|feature| (feature.to_string(), 10 * OFTEN)).to_vec();
     all.extend((1..=10).map(|code| (format!("type {code}"), 4 * OFTEN)));
     for (n, configurations) in [(1, 2), (2, 8), (3, 48)] {

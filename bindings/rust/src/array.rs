@@ -98,6 +98,22 @@ impl<'a> Array<'a> {
         ffi::read_array(self.file, self.block, order as u8, out)
     }
 
+    /// The same as a part of the file, with nothing copied; none where the file does not store them so, in another byte order, raster
+    /// configuration or with a value offset.
+    ///
+    /// ```
+    /// # let bytes = edf::write(&edf::Frame::image(edf::DataType::UnsignedShort, &[2, 1]), "", &[0, 1, 0, 2])?;
+    /// # let file = edf::File::open(&bytes)?;
+    /// let array = file.block(0)?.array()?;
+    /// assert_eq!(array.bytes(edf::ByteOrder::HighByteFirst)?, Some(&[0, 1, 0, 2][..]));
+    /// assert_eq!(array.bytes(edf::ByteOrder::LowByteFirst)?, None);
+    /// # Ok::<(), edf::Error>(())
+    /// ```
+    pub fn bytes(&self, order: ByteOrder) -> Result<Option<&'a [u8]>, Error> {
+        let span = ffi::stored_array(self.file, self.block, order as u8)?;
+        Ok(span.map(|(start, length)| &self.file[start..start + length]))
+    }
+
     /// One pixel. Indices count from 0; those past the array's dimensions are 0. Code 23.
     pub fn pixel(&self, index: [usize; 3]) -> Result<Pixel, Error> {
         let sample = ffi::read_pixel(self.file, self.block, index)?;

@@ -43,6 +43,12 @@ extern "C" {
         file: *const u8, file_length: usize, block: usize, order: u8, out: *mut u8, out_length: usize, length: *mut usize,
         position: *mut usize,
     ) -> u8;
+    fn edf_stored_array(
+        file: *const u8, file_length: usize, block: usize, order: u8, datatype: *mut u8, byteorder: *mut u8,
+        compression: *mut u8, n: *mut u8, dim1: *mut usize, dim2: *mut usize, dim3: *mut usize, configuration: *mut u32,
+        orientation: *mut u32, offset: *mut i64, start: *mut usize, length: *mut usize, delivered: *mut u8,
+        position: *mut usize,
+    ) -> u8;
     fn edf_read_pixel(
         file: *const u8, file_length: usize, block: usize, i1: usize, i2: usize, i3: usize, class: *mut u8,
         unsigned: *mut u64, signed: *mut i64, float32: *mut f32, float64: *mut f64, position: *mut usize,
@@ -187,6 +193,21 @@ pub fn read_array(file: &[u8], block: usize, order: u8, out: &mut [u8]) -> Resul
         edf_read_array(file.as_ptr(), file.len(), block, order, out.as_mut_ptr(), out.len(), &mut length, &mut position)
     };
     answer(code, position, length)
+}
+
+/// The span of a block's array, start and length, if its bytes there are those that `read_array` gives in this order.
+pub fn stored_array(file: &[u8], block: usize, order: u8) -> Result<Option<(usize, usize)>, Error> {
+    let (mut f, mut start, mut length, mut delivered, mut position) = (Fields::default(), 0, 0, 0, 0);
+    let [dim1, dim2, dim3] = &mut f.dims;
+    // SAFETY: `file` is a slice with its own length, the rest different local numbers and fields (see the top of this file).
+    let code = unsafe {
+        edf_stored_array(
+            file.as_ptr(), file.len(), block, order, &mut f.datatype, &mut f.byteorder, &mut f.compression, &mut f.n, dim1,
+            dim2, dim3, &mut f.configuration, &mut f.orientation, &mut f.offset, &mut start, &mut length, &mut delivered,
+            &mut position,
+        )
+    };
+    answer(code, position, (delivered == 1).then_some((start, length)))
 }
 
 pub fn read_pixel(file: &[u8], block: usize, index: [usize; 3]) -> Result<Sample, Error> {

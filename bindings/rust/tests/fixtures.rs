@@ -43,6 +43,28 @@ fn keywords_agree_with_lookup() {
     assert!(compared > 100);
 }
 
+/// An array that is a part of the file is the array that is read.
+#[test]
+fn arrays_that_are_parts_of_the_file() {
+    let (mut parts, mut others) = (0, 0);
+    for (name, bytes) in all_fixtures() {
+        let Ok(file) = File::open(&bytes) else { continue };
+        for array in file.blocks().filter_map(|block| block.array().ok()) {
+            for order in [ByteOrder::HighByteFirst, ByteOrder::LowByteFirst] {
+                match array.bytes(order).expect(&name) {
+                    Some(part) => {
+                        assert_eq!(part, array.read(order).unwrap(), "{name}");
+                        assert!(bytes.as_ptr_range().contains(&part.as_ptr()), "{name}");
+                        parts += 1;
+                    }
+                    None => others += 1,
+                }
+            }
+        }
+    }
+    assert!(parts > 20 && others > 20, "{parts} {others}");
+}
+
 /// A block of a file without a general block answers as a file of its own, so that its calls need not judge the others.
 #[test]
 fn a_block_that_alone_is_another() {

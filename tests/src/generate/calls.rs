@@ -46,6 +46,7 @@ fn block_calls(random: &mut Random, plan: &Plan, file: &[u8], block: usize, call
     let order = random.pick(&[1, 1, 1, 1, 2, 2, 2, 2, 0, 3, 255]);
     let length = read_array(file, block, 1, ROOMY).map_or(5, |bytes| bytes.len());
     calls.push(Call::ReadArray { block, order, room: room(random, length) });
+    calls.push(Call::StoredArray { block, order });
     calls.push(pixel_call(random, file, block));
     let key = key(random, plan, block);
     calls.push(Call::Find { block, key: key.clone() });

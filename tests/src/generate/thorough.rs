@@ -31,7 +31,7 @@ fn array_calls(file: &[u8], block: usize) -> Vec<Call> {
     let length = read_array(file, block, 1, ROOMY).map_or(1, |bytes| bytes.len());
     let rooms = [0, length.saturating_sub(1), length, length + 9];
     let call = |order| rooms.map(|room| Call::ReadArray { block, order, room });
-    (0..=3).flat_map(call).collect()
+    (0..=3).flat_map(call).chain((0..=3).map(|order| Call::StoredArray { block, order })).collect()
 }
 
 /// Pixels at the ends and in the middle along each index, and one outside.

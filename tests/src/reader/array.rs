@@ -51,6 +51,26 @@ pub fn read_array(file: &[u8], block: usize, order: u8, room: usize) -> Result<V
     Ok(places.into_iter().flat_map(|place| delivered(&stored, place, order)).collect())
 }
 
+/// Where the array of a block stands in the file, and its bytes where they are stored just as they are delivered: in configuration 1,
+/// with no offset, and each element in the order asked for or of one byte.
+pub struct Standing {
+    pub description: Description,
+    pub start: usize,
+    pub length: usize,
+    pub delivered: Option<Vec<u8>>,
+}
+
+/// 24 for a bad order code, after the refusals of the description.
+pub fn stored_array(file: &[u8], block: usize, order: u8) -> Result<Standing, Error> {
+    let (stored, blocks) = (stored(file, block)?, cut(file)?);
+    demand(order == 1 || order == 2, 24, 0)?;
+    let (description, header) = (stored.description, &blocks[block].header);
+    let length = description.array_length() as usize;
+    let kept = description.configuration == 1 && description.offset == 0 && (stored.kind.width == 1 || description.order == order);
+    let delivered = kept.then(|| read_array(file, block, order, length)).transpose()?;
+    Ok(Standing { description, start: header.start + header.length, length, delivered })
+}
+
 fn delivered(stored: &Stored, place: usize, order: u8) -> Vec<u8> {
     ordered(&bytes_of_value(stored.kind, stored.value(place)), order)
 }

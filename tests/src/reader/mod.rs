@@ -23,7 +23,7 @@ pub mod writer;
 #[cfg(test)]
 pub mod samples;
 
-pub use array::read_array;
+pub use array::{read_array, stored_array};
 pub use describe::{describe, Description};
 pub use error::Error;
 pub use keywords::{find, whole_number};
