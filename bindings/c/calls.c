@@ -1,6 +1,8 @@
 /* Each call of edf.h once in success and once in an error, and the words for all numbers. Prints the checks that fail, then
  * `N passed, M failed`. */
+#include <errno.h>
 #include <stdio.h>
+#include <stdlib.h>
 #include <string.h>
 #include "edf.h"
 
@@ -84,6 +86,87 @@ static void arrays(void) {
     CHECK(edf_read_pixel(file, file_length, 0, 3, 0, 0, &class_, &unsigned_, &signed_, &float32, &float64, &position) == EDF_INDEX_OUTSIDE);
 }
 
+/* A file of two rows of two elements, low byte first: an array that is stored as it is asked for. */
+static size_t plain_file(uint8_t *bytes) {
+    const uint8_t pixels[] = {0, 1, 0, 2, 0, 3, 1, 4};
+    size_t length = 0, position = 0;
+    CHECK(edf_write(1, EDF_PSD, 1, EDF_UNSIGNED_SHORT, EDF_LOW_BYTE_FIRST, 2, 2, 2, 0, 1, BYTES(""), pixels, sizeof pixels, bytes,
+                    4096, &length, &position) == EDF_OK);
+    return length;
+}
+
+static void stored_arrays(void) {
+    static uint8_t bytes[4096];
+    uint8_t datatype = 0, byteorder = 0, compression = 0, n = 0, delivered = 99;
+    size_t dim1 = 0, dim2 = 0, dim3 = 0, start = 0, length = 0, position = 99, size = plain_file(bytes);
+    uint32_t configuration = 0, orientation = 0;
+    int64_t offset = 99;
+    CHECK(edf_stored_array(bytes, size, 0, EDF_LOW_BYTE_FIRST, &datatype, &byteorder, &compression, &n, &dim1, &dim2, &dim3,
+                           &configuration, &orientation, &offset, &start, &length, &delivered, &position) == EDF_OK);
+    CHECK(datatype == EDF_UNSIGNED_SHORT && byteorder == EDF_LOW_BYTE_FIRST && n == 2 && dim1 == 2 && dim2 == 2 && dim3 == 1);
+    CHECK(delivered == 1 && length == 8 && memcmp(bytes + start, "\1\0\2\0\3\0\4\1", 8) == 0 && position == 99);
+    CHECK(edf_stored_array(bytes, size, 0, EDF_HIGH_BYTE_FIRST, &datatype, &byteorder, &compression, &n, &dim1, &dim2, &dim3,
+                           &configuration, &orientation, &offset, &start, &length, &delivered, &position) == EDF_OK);
+    CHECK(delivered == 0 && start == 512 && length == 8);
+    CHECK(edf_stored_array(bytes, size, 0, 3, &datatype, &byteorder, &compression, &n, &dim1, &dim2, &dim3, &configuration,
+                           &orientation, &offset, &start, &length, &delivered, &position) == EDF_BAD_ARGUMENT);
+    CHECK(delivered == 0 && position == 0);
+}
+
+static void write_file(const char *path, const uint8_t *bytes, size_t length) {
+    FILE *stream = fopen(path, "wb");
+    CHECK(stream != NULL && fwrite(bytes, 1, length, stream) == length && fclose(stream) == 0);
+}
+
+/* Images of a file, in both byte orders, by mapping it and by reading it whole. */
+static void images(const char *path) {
+    static uint8_t bytes[4096], memory[4096];
+    edf_image image;
+    size_t position = 99, length = plain_file(bytes);
+    write_file(path, bytes, length);
+    for (int way = 0; way < 4; way++) {
+        uint8_t order = way % 2 ? EDF_LOW_BYTE_FIRST : EDF_HIGH_BYTE_FIRST;
+        const char *expected = way % 2 ? "\1\0\2\0\3\0\4\1" : "\0\1\0\2\0\3\1\4";
+        CHECK(edf_image_open(path, &image) == EDF_OK && image.file_length == length);
+        CHECK((way < 2 ? edf_image_map(&image, 0, order, &position) : edf_image_load(&image, memory, 0, order, &position)) == EDF_OK);
+        CHECK(image.length == 8 && image.n == 2 && image.dim1 == 2 && image.delivered == way % 2);
+        CHECK(edf_image_read(&image, out, image.length, &position) == EDF_OK && memcmp(out, expected, 8) == 0 && position == 99);
+        CHECK(edf_image_read(&image, out, 7, &position) == EDF_BUFFER_TOO_SMALL && position == 0);
+        edf_image_close(&image);
+        position = 99;
+    }
+    CHECK(edf_image_open(path, &image) == EDF_OK && edf_image_map(&image, 1, EDF_LOW_BYTE_FIRST, &position) == EDF_NOT_FOUND);
+    CHECK(edf_image_map(&image, 0, EDF_LOW_BYTE_FIRST, &position) == EDF_OK && image.length == 8);
+    write_file(path, bytes, 516); /* cut off after it was mapped, in the middle of its pixels */
+    CHECK(edf_image_read(&image, out, image.length, &position) == EDF_SYSTEM_ERROR && errno == EIO);
+    edf_image_close(&image);
+    write_file(path, bytes, 0);
+    CHECK(edf_image_open(path, &image) == EDF_OK && edf_image_map(&image, 0, EDF_LOW_BYTE_FIRST, &position) == EDF_NO_HEADER);
+    edf_image_close(&image);
+    CHECK(edf_image_open("/nowhere/image.edf", &image) == EDF_SYSTEM_ERROR && errno == ENOENT);
+    CHECK(edf_image_open("/", &image) == EDF_SYSTEM_ERROR && errno == EISDIR);
+}
+
+/* An array that is read by several threads: its bytes differ along all of it. */
+static void large_image(const char *path) {
+    enum { SIDE = 2048, SIZE = 4 * SIDE * SIDE };
+    uint8_t *bytes = malloc(512 + SIZE), *read = malloc(SIZE);
+    edf_image image;
+    size_t position = 99;
+    CHECK(bytes != NULL && read != NULL);
+    int used = sprintf((char *)bytes, "{\nDataType = UnsignedInteger ;\nByteOrder = LowByteFirst ;\nDim_1 = %d ;\nDim_2 = %d ;\nSize = %d ;\n",
+                       SIDE, SIDE, SIZE);
+    memset(bytes + used, ' ', 510 - (size_t)used);
+    memcpy(bytes + 510, "}\n", 2);
+    for (size_t i = 0; i < SIZE; i++) bytes[512 + i] = (uint8_t)(i * 2654435761u >> 13);
+    write_file(path, bytes, 512 + SIZE);
+    CHECK(edf_image_open(path, &image) == EDF_OK && edf_image_map(&image, 0, EDF_LOW_BYTE_FIRST, &position) == EDF_OK);
+    CHECK(edf_image_read(&image, read, SIZE, &position) == EDF_OK && memcmp(read, bytes + 512, SIZE) == 0);
+    edf_image_close(&image);
+    free(bytes);
+    free(read);
+}
+
 static void listing(void) {
     static const char expected[] = "blocks 1\n0 0 512 512 1.Image.Psd UnsignedShort HighByteFirst 3x2 6 1 0\n";
     static uint8_t list[EDF_LIST_CAPACITY];
@@ -129,8 +212,10 @@ static void words(void) {
     CHECK(strcmp(edf_byteorder_name(EDF_LOW_BYTE_FIRST), "LowByteFirst") == 0 && strcmp(edf_byteorder_name(3), "") == 0);
 }
 
-int main(void) {
-    writing(), opening(), keywords(), arrays(), listing(), keyword_list(), words();
+int main(int count, char **arguments) {
+    if (count != 2) return fputs("usage: calls PATH (of a file that it may write)\n", stderr), 2;
+    writing(), opening(), keywords(), arrays(), stored_arrays(), listing(), keyword_list(), words();
+    images(arguments[1]), large_image(arguments[1]);
     printf("%d passed, %d failed\n", passed, wrong);
     return wrong != 0;
 }

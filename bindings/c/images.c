@@ -62,12 +62,19 @@ uint8_t edf_read_bytes(int descriptor, uint64_t offset, uint8_t *out, size_t len
 
 /* ---- Images */
 
+/* 0 for a regular file; else sets errno. */
+static int not_regular(const struct stat *about) {
+    if (!S_ISREG(about->st_mode)) errno = S_ISDIR(about->st_mode) ? EISDIR : ESPIPE;
+    return !S_ISREG(about->st_mode);
+}
+
 uint8_t edf_image_open(const char *path, edf_image *image) {
     struct stat about;
+    if (stat(path, &about) != 0 || not_regular(&about)) return EDF_SYSTEM_ERROR; /* a pipe is not opened: who writes to it would notice */
     int descriptor = open(path, O_RDONLY | O_CLOEXEC);
     if (descriptor < 0) return EDF_SYSTEM_ERROR;
-    int error = fstat(descriptor, &about) != 0 ? errno : S_ISDIR(about.st_mode) ? EISDIR : S_ISREG(about.st_mode) ? 0 : ESPIPE;
-    if (error) {
+    if (fstat(descriptor, &about) != 0 || not_regular(&about)) {
+        int error = errno;
         close(descriptor);
         errno = error;
         return EDF_SYSTEM_ERROR;

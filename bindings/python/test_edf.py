@@ -1,6 +1,7 @@
 """Tests of edf.py: python3 -m unittest, in this folder. numpy is not needed; what needs it is skipped where it is not installed."""
 
 import ctypes
+import errno
 import gc
 import glob
 import os
@@ -453,6 +454,138 @@ class Arrays(unittest.TestCase):
             self.assertTrue(all((stack[block] == file.array(block)).all() for block in range(len(file))))
             with self.assertRaises((TypeError, ValueError)):
                 file.read_into(0, stack[0].T)
+
+
+class Reading(unittest.TestCase):
+    """edf.read: as `open` and `array`, whichever way it takes."""
+
+    def setUp(self):
+        self.folder = tempfile.TemporaryDirectory()
+        self.addCleanup(self.folder.cleanup)
+        self.addCleanup(setattr, edf, "_SMALL", edf._SMALL)
+        self.path = os.path.join(self.folder.name, "image.edf")
+
+    def ways(self):
+        """Every way: small files are read whole, or mapped; without numpy all are mapped."""
+        for most in (edf._SMALL, 0):
+            edf._SMALL = most
+            yield most
+        with without_numpy():
+            yield None
+
+    def write(self, data):
+        with open(self.path, "wb") as stream:
+            stream.write(data)
+        return self.path
+
+    def both(self, path, block):
+        """What `read` answers, which is what `open` and `array` do."""
+        expected = answer(lambda p: edf.open(p).array(block), path)
+        given = answer(lambda p: edf.read(p, block), path)
+        if not isinstance(expected, (bytes, tuple)):
+            self.assertEqual((given.dtype, given.shape), (expected.dtype, expected.shape), path)
+            self.assertTrue(given.flags.writeable and given.flags.aligned and given.flags.c_contiguous)
+            expected, given = expected.tobytes(), given.tobytes()
+        self.assertEqual(given, expected, (path, block))
+        return given
+
+    def test_fixtures(self):
+        arrays = 0
+        for _ in self.ways():
+            for path in sorted(glob.glob(fixture("*.edf"))):
+                arrays += sum(isinstance(self.both(path, block), bytes) for block in (0, 1, 9, 10))
+        self.assertGreater(arrays, 3 * 25)
+
+    @with_numpy
+    def test_types_orders_and_configurations(self):
+        for letter in "BbHhIifQqd":
+            array = (numpy.arange(2 * 3 * 5) * 7 - 20).astype(letter).reshape(2, 3, 5)
+            for order in ("HighByteFirst", "LowByteFirst"):
+                for configuration in (1, 2, 17, 48):
+                    self.write(edf.write(array, byte_order=order, configuration=configuration))
+                    for way in self.ways():
+                        self.assertEqual(self.both(self.path, 0), array.tobytes(), (letter, order, configuration, way))
+
+    @with_numpy
+    def test_arrays_are_their_own(self):
+        array = numpy.arange(4000, dtype="uint8").reshape(40, 100)
+        data = edf.write(array)
+        for way in self.ways():
+            image = edf.read(self.write(data))
+            self.write(bytes(len(data)))
+            image = numpy.frombuffer(image, "uint8").reshape(40, 100) if way is None else image
+            self.assertEqual(image.tolist(), array.tolist(), way)
+
+    @with_numpy
+    def test_a_small_array_does_not_hold_a_large_file(self):
+        block = edf.write(numpy.arange(2000, dtype="uint8"))
+        other = b"{\nEDF_DataBlockID = 2.Image.Psd ;\nEDF_BinarySize = 90112 ;\n".ljust(510) + b"}\n" + bytes(90112)
+        self.assertIsNone(edf.read(self.write(block + other)).base)
+
+    def test_headers_that_leave_the_data_unaligned(self):
+        header = b"{ EDF_DataFormatVersion = 1.00 ; EDF_DataBlocks = 1 ; EDF_BlockBoundary = 1 ; }\n"
+        data = b"{ EDF_DataBlockID = 1.Image.Psd ; EDF_BinarySize = 16 ; DataType = Unsigned64 ; ByteOrder = LowByteFirst ; Dim_1 = 2 ;%s}\n"
+        for spaces in range(8):
+            self.write(header + data % (b" " * spaces) + bytes(range(16)))
+            for _ in self.ways():
+                self.assertEqual(self.both(self.path, 1), bytes(range(16)))
+
+    def test_paths(self):
+        expected = bytes(edf.read(fixture("raster_7.edf")))
+        for path in (pathlib.Path(fixture("raster_7.edf")), os.fsencode(fixture("raster_7.edf"))):
+            self.assertEqual(bytes(edf.read(path)), expected)
+        self.assertRaises(FileNotFoundError, edf.read, fixture("no such file"))
+        self.assertRaises(IsADirectoryError, edf.read, fixture("."))
+        self.assertRaises(ValueError, edf.read, fixture("raster_7.edf\0.edf"))
+        self.assertRaises(TypeError, edf.read, 0)
+        self.assertRaises(TypeError, edf.read, fixture("raster_7.edf"), "0")
+
+    def test_blocks_that_there_are_not(self):
+        for block in (-1, 1, 255, 256, 1 << 64):
+            with self.assertRaises(edf.EdfError) as caught:
+                edf.read(fixture("raster_7.edf"), block)
+            self.assertEqual((caught.exception.code, caught.exception.position), (edf.Code.NOT_FOUND, 0))
+            self.assertEqual(answer(lambda path: edf.read(path, block), fixture("nul_in_header.edf"))[0], edf.Code.BAD_HEADER_BYTE)
+
+    def test_empty_files_and_pipes(self):
+        for _ in self.ways():
+            self.assertEqual(self.both(self.write(b""), 0), (3, 0))
+        with open(fixture("raster_7.edf"), "rb") as stream:
+            data = stream.read()
+        pipe = os.path.join(self.folder.name, "pipe")
+        os.mkfifo(pipe)
+        for read in (edf.read, lambda path: edf.open(path).array(0)):
+            writer = threading.Thread(target=pathlib.Path(pipe).write_bytes, args=[data])
+            writer.start()
+            self.assertEqual(bytes(read(pipe)), bytes(edf.File(data).array(0)))
+            writer.join()
+
+    def test_a_file_that_is_cut_off(self):
+        data = b"{\nDataType = UnsignedByte ;\nDim_1 = 8192 ;\nSize = 8192 ;\n".ljust(510) + b"}\n" + bytes(8192)
+        with edf.open(self.write(data)) as file:
+            os.truncate(self.path, 600)
+            with self.assertRaises(OSError) as caught:
+                file.array(0)
+        self.assertEqual(caught.exception.errno, errno.EIO)
+
+    def test_descriptors_are_closed(self):
+        gc.collect()
+        before = os.listdir("/dev/fd")
+        for _ in self.ways():
+            for name in ("raster_7.edf", "fabio_uint16_64x256.edf", "type_unknown.edf", "nul_in_header.edf", "no such file", "."):
+                answer(lambda path: edf.read(path) if os.path.isfile(path) else None, fixture(name))
+        self.assertEqual(os.listdir("/dev/fd"), before)
+
+    @with_numpy
+    def test_large_arrays(self):
+        """Those that several threads read."""
+        for side in (1500, 2048, 2500):
+            array = (numpy.arange(side * side, dtype="uint32") * 2654435761 >> 7).astype("uint32").reshape(side, side)
+            body = b"{\nDataType = UnsignedInteger ;\nByteOrder = LowByteFirst ;\nDim_1 = %d ;\nDim_2 = %d ;\nSize = %d ;\n"
+            self.write((body % (side, side, array.nbytes)).ljust(510) + b"}\n" + array.astype("<u4").tobytes())
+            self.assertTrue((edf.read(self.path) == array).all())
+            with edf.open(self.path) as file:
+                self.assertTrue((file.array(0) == array).all())
 
 
 class Writing(unittest.TestCase):

@@ -131,6 +131,9 @@ pub const FAULTS: &[Fault] = &[
     fault("describe.rs", "demand(own.facts.role != Role::General, 16, 0)", "demand(true, 16, 0)"),
     // Arrays and pixels.
     fault("array.rs", "order == 1 || order == 2", "order <= 2"),
+    fault("array.rs", "description.configuration == 1 && ", ""),
+    fault("array.rs", "description.offset == 0 && ", ""),
+    fault("array.rs", "stored.kind.width == 1 || ", ""),
     fault("array.rs", "array_length() <= room as i128", "array_length() < room.max(1) as i128"),
     fault("array.rs", "shifted(self.kind, value, self.description.offset)", "shifted(self.kind, value, 0)"),
     fault("array.rs", "block.header.start + block.header.length", "block.header.start + block.header.length.next_multiple_of(512)"),

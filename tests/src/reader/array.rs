@@ -62,13 +62,12 @@ pub struct Standing {
 
 /// 24 for a bad order code, after the refusals of the description.
 pub fn stored_array(file: &[u8], block: usize, order: u8) -> Result<Standing, Error> {
+    let bytes = read_array(file, block, order, usize::MAX)?;
     let (stored, blocks) = (stored(file, block)?, cut(file)?);
-    demand(order == 1 || order == 2, 24, 0)?;
     let (description, header) = (stored.description, &blocks[block].header);
-    let length = description.array_length() as usize;
     let kept = description.configuration == 1 && description.offset == 0 && (stored.kind.width == 1 || description.order == order);
-    let delivered = kept.then(|| read_array(file, block, order, length)).transpose()?;
-    Ok(Standing { description, start: header.start + header.length, length, delivered })
+    let (start, length) = (header.start + header.length, bytes.len());
+    Ok(Standing { description, start, length, delivered: kept.then_some(bytes) })
 }
 
 fn delivered(stored: &Stored, place: usize, order: u8) -> Vec<u8> {
