@@ -4,8 +4,9 @@ same files, in one run, in turns; the best of many. What they read is compared f
 fabio is the reader that this field uses. "numpy" is what one writes with numpy alone: it reads the first header, takes from it how
 the pixels are stored, then numpy.fromfile, the bytes in this machine's order and the array in raster configuration 1. It checks
 next to nothing. "fromfile" and "memmap" are the same for one who knows already where the pixels are and how they are stored: they
-do not read the header. Each answers an array of its own, in this machine's byte order; but for the table of arrays that are there
-already, into which all put their pixels."""
+do not read the header. "edf" is edf.read. Each answers an array of its own, in this machine's byte order; but for the table of arrays
+that are there already, into which all put their pixels. numpy uses one processor; edf.read uses more where it reads 3 MiB or more
+that are stored as they are asked for."""
 
 import os
 import shutil
@@ -174,6 +175,36 @@ def images(folder):
     print("\nfabio does not undo raster configurations and does not add value offsets: `-`.\n")
 
 
+def opened_image(folder, data_type):
+    """A row: an image by edf.read, by edf.read on one processor, and by edf.open and array."""
+    path = os.path.join(folder, "image.edf")
+    stored_image(path, data_type, True)
+
+    def by_read():
+        return edf.read(path)
+
+    def by_open():
+        with edf.open(path) as file:
+            return file.array(0)
+
+    assert (by_read() == by_open()).all()
+    read, by_opening = best([by_read, by_open])
+    processors = os.sched_getaffinity(0)
+    os.sched_setaffinity(0, [min(processors)])
+    [alone] = best([by_read])
+    os.sched_setaffinity(0, processors)
+    print("| %s | %.3f | %.3f | %.3f | %.2f | %.2f |" % (data_type, read, alone, by_opening, alone / read, by_opening / read), flush=True)
+    os.remove(path)
+
+
+def opened_images(folder):
+    print("| an image of 2,048 by 2,048, low byte first | read ms | read on one processor ms | open and array ms | one processor / read "
+          "| open and array / read |\n|---|---|---|---|---|---|")
+    for data_type in ("UnsignedByte", "UnsignedShort", "UnsignedInteger", "Unsigned64"):
+        opened_image(folder, data_type)
+    print()
+
+
 # ---- An array that is there
 
 
@@ -286,6 +317,7 @@ def main():
     try:
         print("fabio %s, numpy %s, Python %s\n" % (fabio.version, numpy.__version__, sys.version.split()[0]))
         images(folder)
+        opened_images(folder)
         arrays_that_are_there(folder)
         print("| files of several frames | fabio ms | edf ms | fabio / edf |\n|---|---|---|---|")
         for frames in (1, 16, 256):

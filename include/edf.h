@@ -178,8 +178,8 @@ uint8_t edf_keywords(const uint8_t *header, size_t header_length, uint8_t *out, 
  * calls above, or EDF_SYSTEM_ERROR: a call of the system failed, and errno says why.
  *
  * edf_image_open opens a regular file: its descriptor and `file_length`. Then one of two calls judges it, and describes the array of
- * a block in a byte order (edf_stored_array): edf_image_map maps the file; edf_image_load reads it whole into `memory`, which is lent
- * until the image is closed and has `file_length` bytes. edf_image_read puts the `length` bytes of the array at the front of `out`:
+ * a block in a byte order (edf_stored_array): edf_image_map maps the file; edf_image_load reads it whole into `memory`, which has
+ * `file_length` bytes and is lent as long as the image is used, and closes it. edf_image_read puts the `length` bytes of the array at the front of `out`:
  * where they are stored as they are asked for, they are read from the file, large ones by several threads at once; else
  * edf_read_array makes them. edf_image_close lets all go; after an error of the calls between, too. */
 enum { EDF_SYSTEM_ERROR = 255 };

@@ -5,6 +5,8 @@
 #include <fcntl.h>
 #include <pthread.h>
 #include <sched.h>
+#include <signal.h>
+#include <stdlib.h>
 #include <sys/mman.h>
 #include <sys/stat.h>
 #include <unistd.h>
@@ -12,52 +14,105 @@
 
 /* ---- Bytes of a file */
 
-/* From so many bytes on, several processors read: fewer are read before another one is awake. */
-enum { SHARED = 6 << 20, MOST_PARTS = 4 };
-
-typedef struct {
-    int descriptor, error;
-    uint8_t *out;
-    size_t length;
-    uint64_t offset;
-} part;
-
-/* Reads a part; its error is that of the system, or EIO where the file has become shorter. */
-static void *read_part(void *given) {
-    part *p = given;
-    for (size_t done = 0; done < p->length && p->error == 0;) {
-        ssize_t n = pread(p->descriptor, p->out + done, p->length - done, (off_t)(p->offset + done));
+/* The bytes of a piece: 0, or the error of the system, which is EIO where the file ends before. */
+static int read_piece(int descriptor, uint64_t offset, uint8_t *out, size_t length) {
+    for (size_t done = 0; done < length;) {
+        ssize_t n = pread(descriptor, out + done, length - done, (off_t)(offset + done));
+        if (n == 0) return EIO;
+        if (n < 0 && errno != EINTR) return errno;
         if (n > 0) done += (size_t)n;
-        else if (n == 0) p->error = EIO;
-        else if (errno != EINTR) p->error = errno;
     }
+    return 0;
+}
+
+/* Bytes that several threads read, a piece at a time: whoever is free takes the next. */
+typedef struct {
+    pthread_mutex_t lock;
+    pthread_cond_t none_reading;
+    int descriptor, error;
+    uint64_t offset;
+    uint8_t *out;
+    size_t length, taken, reading, holders;
+} task;
+
+/* From so many bytes on it pays to wake another processor; so many are taken at once. */
+enum { SHARED = 3 << 20, PIECE = 256 << 10, MOST_HELPERS = 3 };
+
+/* Reads pieces until none is left. Returns with the lock. */
+static void read_pieces(task *t) {
+    pthread_mutex_lock(&t->lock);
+    while (t->taken < t->length && t->error == 0) {
+        size_t from = t->taken, length = t->length - from < PIECE ? t->length - from : PIECE;
+        t->taken += length;
+        t->reading++;
+        pthread_mutex_unlock(&t->lock);
+        int error = read_piece(t->descriptor, t->offset + from, t->out + from, length);
+        pthread_mutex_lock(&t->lock);
+        t->reading--;
+        if (error) t->error = error;
+    }
+    if (t->reading == 0) pthread_cond_signal(&t->none_reading);
+}
+
+/* Gives up a hold on a task, and the lock. The last one frees it: a helper that wakes late finds nothing left to read. */
+static void release(task *t) {
+    int last = --t->holders == 0;
+    pthread_mutex_unlock(&t->lock);
+    if (!last) return;
+    pthread_cond_destroy(&t->none_reading);
+    pthread_mutex_destroy(&t->lock);
+    free(t);
+}
+
+static void *help(void *given) {
+    read_pieces(given);
+    release(given);
     return NULL;
 }
 
-static size_t processors(void) {
+/* Starts threads that help, none of which takes a signal of the program. */
+static void start_helpers(task *t, size_t count) {
+    pthread_attr_t detached;
+    pthread_t thread;
+    sigset_t all, before;
+    sigfillset(&all);
+    if (pthread_attr_init(&detached) != 0) return;
+    pthread_attr_setdetachstate(&detached, PTHREAD_CREATE_DETACHED);
+    pthread_sigmask(SIG_SETMASK, &all, &before);
+    pthread_mutex_lock(&t->lock);
+    for (size_t i = 0; i < count; i++) t->holders += pthread_create(&thread, &detached, help, t) == 0;
+    pthread_mutex_unlock(&t->lock);
+    pthread_sigmask(SIG_SETMASK, &before, NULL);
+    pthread_attr_destroy(&detached);
+}
+
+/* How many processors this thread may use besides its own. */
+static size_t others(void) {
     cpu_set_t set;
-    return sched_getaffinity(0, sizeof set, &set) == 0 ? (size_t)CPU_COUNT(&set) : 1;
+    size_t count = sched_getaffinity(0, sizeof set, &set) == 0 ? (size_t)CPU_COUNT(&set) : 1;
+    return count > MOST_HELPERS ? MOST_HELPERS : count - 1;
+}
+
+static int read_shared(int descriptor, uint64_t offset, uint8_t *out, size_t length) {
+    size_t count = length < SHARED ? 0 : others();
+    task *t = count == 0 ? NULL : malloc(sizeof *t);
+    if (t == NULL) return read_piece(descriptor, offset, out, length);
+    *t = (task){.descriptor = descriptor, .offset = offset, .out = out, .length = length, .holders = 1};
+    pthread_mutex_init(&t->lock, NULL);
+    pthread_cond_init(&t->none_reading, NULL);
+    start_helpers(t, count);
+    read_pieces(t);
+    while (t->reading > 0) pthread_cond_wait(&t->none_reading, &t->lock);
+    int error = t->error;
+    release(t);
+    return error;
 }
 
 uint8_t edf_read_bytes(int descriptor, uint64_t offset, uint8_t *out, size_t length) {
-    part parts[MOST_PARTS];
-    pthread_t threads[MOST_PARTS];
-    int started[MOST_PARTS] = {0};
-    size_t count = length < SHARED ? 1 : processors();
-    if (count > MOST_PARTS) count = MOST_PARTS;
-    for (size_t i = count; i-- > 0;) {
-        size_t from = length / count * i & ~(size_t)4095, to = i + 1 == count ? length : length / count * (i + 1) & ~(size_t)4095;
-        parts[i] = (part){descriptor, 0, out + from, to - from, offset + from};
-        if (i > 0) started[i] = pthread_create(&threads[i], NULL, read_part, &parts[i]) == 0;
-        if (!started[i]) read_part(&parts[i]);
-    }
-    int error = parts[0].error;
-    for (size_t i = 1; i < count; i++) {
-        if (started[i]) pthread_join(threads[i], NULL);
-        if (error == 0) error = parts[i].error;
-    }
-    errno = error ? error : errno;
-    return error ? EDF_SYSTEM_ERROR : EDF_OK;
+    int error = read_shared(descriptor, offset, out, length);
+    if (error == 0) return EDF_OK;
+    errno = error;
+    return EDF_SYSTEM_ERROR;
 }
 
 /* ---- Images */
@@ -105,6 +160,10 @@ uint8_t edf_image_map(edf_image *image, size_t block, uint8_t order, size_t *pos
 
 uint8_t edf_image_load(edf_image *image, uint8_t *memory, size_t block, uint8_t order, size_t *position) {
     uint8_t code = edf_read_bytes(image->descriptor, 0, memory, image->file_length);
+    int error = errno;
+    close(image->descriptor);
+    image->descriptor = -1;
+    errno = error;
     if (code != EDF_OK) return code;
     image->file = memory;
     return describe(image, block, order, position);
@@ -120,7 +179,7 @@ uint8_t edf_image_read(const edf_image *image, uint8_t *out, size_t out_length, 
 void edf_image_close(edf_image *image) {
     int error = errno;
     if (image->mapped) munmap((void *)image->file, image->file_length);
-    close(image->descriptor);
+    if (image->descriptor >= 0) close(image->descriptor);
     *image = (edf_image){.descriptor = -1};
     errno = error;
 }

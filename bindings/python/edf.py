@@ -57,6 +57,7 @@ _IMAGE_SIZE, _FILE_LENGTH = 96, 10  # and where its file_length is
 _Image = c_uint64 * (_IMAGE_SIZE // 8 + 1)  # an edf_image and the position of an error
 _Length = c_uint64 * 2  # of edf_read_array
 _SYSTEM_ERROR = 255
+_PATH_ENCODING = sys.getfilesystemencoding(), sys.getfilesystemencodeerrors()
 _SMALL = 6 << 20  # files of at most so many bytes are read whole by `read`: mapping them would take longer
 
 _Front = c_char * 0  # the front of a buffer, which may be empty
@@ -594,7 +595,8 @@ def open(path):
 def read(path, block=0):
     """The array of a block of a file by its path, as File.array gives it: the quickest way to one image. No other program may change
     the file meanwhile."""
-    numpy, name, number = _numpy(), os.fsencode(path), operator.index(block)
+    numpy, number = _numpy(), operator.index(block)
+    name = path.encode(*_PATH_ENCODING) if type(path) is str else os.fsencode(path)
     if b"\0" in name:
         raise ValueError("embedded null byte")
     image = _Image()
@@ -602,8 +604,10 @@ def read(path, block=0):
     if not 0 <= number < MOST_BLOCKS or _library.edf_image_open(name, address):
         with open(path) as file:  # no number of a block, or no regular file: what `open` makes of it
             return file.array(block)
+    if numpy and image[_FILE_LENGTH] <= _SMALL:
+        return _loaded(path, image, address, number, numpy)
     try:
-        return (_loaded if numpy and image[_FILE_LENGTH] <= _SMALL else _mapped)(path, image, address, number, numpy)
+        return _mapped(path, image, address, number, numpy)
     finally:
         _library.edf_image_close(address)
 
@@ -616,7 +620,11 @@ def _checked(code, path, image):
 def _loaded(path, image, address, number, numpy):
     """An array of a file that is read whole. It is a part of the bytes read, where they hold it as it is asked for and little else."""
     size = image[_FILE_LENGTH]
-    whole = numpy.empty(size + 63, "u1")
+    try:
+        whole = numpy.empty(size + 63, "u1")
+    except MemoryError:
+        _library.edf_image_close(address)
+        raise
     owner = _Front.from_buffer(whole)
     memory = ctypes.addressof(owner)
     front = -memory % 64  # bytes go quicker to a line of the caches than past one's start
