@@ -11,7 +11,7 @@ use Rattle.raster.specs.Bytes.{joined}
 use Rattle.raster.specs.Strided.{patched, turned, place, Inside, Width, rowOf}
 use Rattle.elements.proofs.Filling.{joined-same, mul-room}
 use Rattle.elements.proofs.RowLaws.{keeps, length-element, length-row}
-use Rattle.elements.proofs.Groups.{row-add, group-is, rest-inside, parts-whole}
+use Rattle.elements.proofs.Groups.{strided-add, group-is, rest-inside, parts-whole}
 
 -- Reversed bytes are single bytes backwards.
 pub reversed-is : (l : List ℕ) (k : ℕ) → length l ≡ k → turned true l ≡ rowOf (turned false) 1 l (k - 1) 0 1 k
@@ -54,7 +54,7 @@ module _ (f made : List ℕ → List ℕ) (w c k : ℕ) (wide : k ≡ w * c) (ea
       let v : k * m ≡ w * (c * m) = ap (λ (j : ℕ). j * m) wide ∙ mul-assoc w c m in
       let e : place p 0 k m + (k - w) ≡ place a 0 w (c * m) = omega (arith, zero-mul m, zero-mul (c * m)) in
       (λ j. groups-are s p m (λ i x. h i (omega arith)) j ++ group s (place p 0 k m) (omega arith) j)
-      ∙ sym (row-add f w s a 0 w (c * m) c (place p 0 k m + (k - w)) (omega (arith, zero-mul m, zero-mul (c * m))) e)
+      ∙ sym (strided-add f w s a 0 w (c * m) c (place p 0 k m + (k - w)) (omega (arith, zero-mul m, zero-mul (c * m))) e)
       ∙ ap (λ (j : ℕ). rowOf f w s a 0 w j) (sym (mul-suc c m))
 
 -- Sixteen bytes with their order exchanged are sixteen.

@@ -26,14 +26,17 @@ place-add at up down a i h = omega (arith, mul-add up a i, mul-add down a i)
 
 module _ (f : List ℕ → List ℕ) (w : ℕ) where
   -- A row in two parts.
-  pub row-add : (s : List ℕ) (at up down a b p : ℕ) → down * a ≤ at + up * a → p ≡ place at up down a
+  pub strided-add : (s : List ℕ) (at up down a b p : ℕ) → down * a ≤ at + up * a → p ≡ place at up down a
       → rowOf f w s at up down (a + b) ≡ rowOf f w s at up down a ++ rowOf f w s p up down b
   unfolding rowOf
-  row-add s at up down a b p h e =
+  strided-add s at up down a b p h e =
       joined-add _ a b
       ∙ ap (λ (l : List ℕ). rowOf f w s at up down a ++ l)
       (joined-same b _ _
       (λ i k. ap (λ (j : ℕ). f (take w (drop j s))) (place-add at up down a i h ∙ ap (λ (j : ℕ). place j up down i) (sym e))))
+
+  pub row-add : (s : List ℕ) (at a b : ℕ) → rowOf f w s at w 0 (a + b) ≡ rowOf f w s at w 0 a ++ rowOf f w s (at + w * a) w 0 b
+  row-add s at a b = strided-add s at w 0 a b (at + w * a) (omega (arith, zero-mul a)) (omega (arith, zero-mul a))
 
   -- The elements of a group of k bytes are those of the file where it stands.
   pub group-is : (s : List ℕ) (p k at up down c : ℕ) → Inside at up down c w k
@@ -71,7 +74,7 @@ module _ (f : List ℕ → List ℕ) (w : ℕ) (keeps : (l : List ℕ) → lengt
       let m : length l ≡ h = ap length first ∙ length-row f w keeps s at up down a (λ i k. inside i (omega arith)) ∙ sym front in
       let r : length q ≡ length d - h =
       ap length e ∙ length-row f w keeps s p up down (n - a) (rest-inside at up down a n p w (length s) fits before next inside) ∙ omega arith in
-      two-parts d l h (omega arith) m q r ∙ (λ i. first i ++ e i) ∙ sym (row-add f w s at up down a (n - a) p before next)
+      two-parts d l h (omega arith) m q r ∙ (λ i. first i ++ e i) ∙ sym (strided-add f w s at up down a (n - a) p before next)
       ∙ ap (rowOf f w s at up down) y
 
 -- Elements that are made anew as w bytes.
@@ -86,10 +89,6 @@ module _ (f : List ℕ → List ℕ) (w : ℕ) (some : 0 < w) (keeps : (l : List
   length-run : (at n : ℕ) → w * n ≤ length s - at → length (run at n) ≡ w * n
   length-run at n h = length-row f w keeps s at w 0 n (inside-run at n h)
 
-  -- The place after a elements.
-  after : (at a p : ℕ) → p ≡ at + w * a → p ≡ place at w 0 a
-  after at a p e = omega (arith, zero-mul a)
-
   -- A turn: the next group of c is written.
   pub group-more : (at c i p o k : ℕ) (d l q : List ℕ) → w * (c * i + c) ≤ length s - at → p ≡ at + w * (c * i) → o ≡ w * (c * i) → k ≡ w * c
       → l ≡ over (run at (c * i)) d → q ≡ rowOf f w (take k (drop p s)) 0 w 0 c → patched o k l q ≡ over (run at (c * (i + 1))) d
@@ -101,7 +100,7 @@ module _ (f : List ℕ → List ℕ) (w : ℕ) (some : 0 < w) (keeps : (l : List
       let x : q ≡ run (at + w * m) c =
       r ∙ group-is f w s p k 0 w 0 c (λ j t. (omega (arith, zero-mul j), omega (arith, mul-room w j c t))) ∙ ap (λ (j : ℕ). run j c) n in
       over-part (run at m) q d l o k g (length-run at m (omega arith) ∙ sym a) (ap length x ∙ length-run (at + w * m) c (omega arith) ∙ sym b)
-      ∙ ap (λ (t : List ℕ). over t d) (ap (λ (t : List ℕ). run at m ++ t) x ∙ sym (row-add f w s at w 0 m c (at + w * m) (omega (arith, zero-mul m)) (after at m _ refl)) ∙ ap (run at) y)
+      ∙ ap (λ (t : List ℕ). over t d) (ap (λ (t : List ℕ). run at m ++ t) x ∙ sym (row-add f w s at m c) ∙ ap (run at) y)
 
   -- The end: all n groups are.
   pub groups-done : (at c i n : ℕ) (d l : List ℕ) → i ≤ n → n ≤ i → length d ≡ w * (c * n) → w * (c * n) ≤ length s - at
@@ -116,5 +115,5 @@ module _ (f : List ℕ → List ℕ) (w : ℕ) (some : 0 < w) (keeps : (l : List
       → let begun = patched 0 (h - 0) d l in
       (q : List ℕ) → q ≡ run (at + h) (n - a) → patched h (length begun - h) begun q ≡ run at n
   row-whole at a n h d l front fits whole inside first =
-      parts-whole f w keeps s at w 0 a n h (at + h) fits (omega (arith, zero-mul a)) (after at a (at + h) (omega arith))
+      parts-whole f w keeps s at w 0 a n h (at + h) fits (omega (arith, zero-mul a)) (omega (arith, zero-mul a))
       (inside-run at n (omega arith)) d l front whole first
