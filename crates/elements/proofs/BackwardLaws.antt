@@ -2,7 +2,7 @@
 use mathlib.Core.Path.{_≡_, refl, sym, ap, subst, _∙_}
 use mathlib.Core.Logic.{inl, inr}
 use mathlib.Core.Bool.{true, false}
-use mathlib.Core.List.{List, [], _∷_, _++_, reverse, reverse-cons}
+use mathlib.Core.List.{List, [], _∷_, _++_, reverse-cons}
 use Prim.Native.Nat.{ℕ, zero, suc, _+_, _-_, _*_, _≤_, _<_}
 use native.Mathlib.Nat.{zero-mul, one-mul, mul-zero, mul-suc, mul-assoc}
 use native.Mathlib.Omega.{arith}
@@ -66,7 +66,7 @@ module _ (w c k : ℕ) (wide : k ≡ w * c) (s : List ℕ) (at n m h : ℕ) (fro
   bytes : h ≡ w * (c * m)
   bytes = front ∙ ap (λ (j : ℕ). j * m) wide ∙ mul-assoc w c m
 
-  pub reach : h ≤ at
+  reach : h ≤ at
   reach = omega (arith, bytes, inside (c * m) left .0, zero-mul (c * m))
 
   next : at - h ≡ place at 0 w (c * m)
