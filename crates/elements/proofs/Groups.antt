@@ -8,7 +8,7 @@ use native.Mathlib.Omega.{arith}
 use lib.ListN.{length, take, drop, drop-of-length-le}
 use lib.Seq.{take-take, drop-drop}
 use Rattle.scan.specs.Buffer.{over}
-use Rattle.raster.specs.Strided.{patched, place, rowOf}
+use Rattle.raster.specs.Strided.{patched, place, Inside, rowOf}
 use Rattle.raster.proofs.Joined.{joined-same, joined-add}
 use Rattle.elements.proofs.Filling.{over-part, two-parts, mul-room}
 use Rattle.elements.proofs.RowLaws.{length-row}
@@ -20,30 +20,62 @@ within (suc a) w zero l h = absurd (omega arith)
 within (suc a) w (suc k) [] h = refl
 within (suc a) w (suc k) (x ∷ l) h = within a w k l (omega arith)
 
-place-add : (at w a i : ℕ) → place at w 0 (a + i) ≡ place (at + w * a) w 0 i
-place-add at w a i = omega (arith, mul-add w a i, zero-mul (a + i), zero-mul i)
+-- No place is cut off at 0 up to index a.
+place-add : (at up down a i : ℕ) → down * a ≤ at + up * a → place at up down (a + i) ≡ place (place at up down a) up down i
+place-add at up down a i h = omega (arith, mul-add up a i, mul-add down a i)
 
 module _ (f : List ℕ → List ℕ) (w : ℕ) where
   -- A row in two parts.
-  pub row-add : (s : List ℕ) (at a b : ℕ) → rowOf f w s at w 0 (a + b) ≡ rowOf f w s at w 0 a ++ rowOf f w s (at + w * a) w 0 b
+  pub strided-add : (s : List ℕ) (at up down a b p : ℕ) → down * a ≤ at + up * a → p ≡ place at up down a
+      → rowOf f w s at up down (a + b) ≡ rowOf f w s at up down a ++ rowOf f w s p up down b
   unfolding rowOf
-  row-add s at a b =
+  strided-add s at up down a b p h e =
       joined-add _ a b
-      ∙ ap (λ (l : List ℕ). rowOf f w s at w 0 a ++ l)
-      (joined-same b _ _ (λ i h. ap (λ (p : ℕ). f (take w (drop p s))) (place-add at w a i)))
+      ∙ ap (λ (l : List ℕ). rowOf f w s at up down a ++ l)
+      (joined-same b _ _
+      (λ i k. ap (λ (j : ℕ). f (take w (drop j s))) (place-add at up down a i h ∙ ap (λ (j : ℕ). place j up down i) (sym e))))
 
-  -- The elements of a group are those of the file where it stands.
-  group-is : (s : List ℕ) (p c : ℕ) → rowOf f w (take (w * c) (drop p s)) 0 w 0 c ≡ rowOf f w s p w 0 c
+  pub row-add : (s : List ℕ) (at a b : ℕ) → rowOf f w s at w 0 (a + b) ≡ rowOf f w s at w 0 a ++ rowOf f w s (at + w * a) w 0 b
+  row-add s at a b = strided-add s at w 0 a b (at + w * a) (omega (arith, zero-mul a)) (omega (arith, zero-mul a))
+
+  -- The elements of a group of k bytes are those of the file where it stands.
+  pub group-is : (s : List ℕ) (p k at up down c : ℕ) → Inside at up down c w k
+      → rowOf f w (take k (drop p s)) at up down c ≡ rowOf f w s (p + at) up down c
   unfolding rowOf
-  group-is s p c =
+  group-is s p k at up down c inside =
       joined-same c _ _
       (λ i h.
-      let a : place 0 w 0 i ≡ w * i = omega (arith, zero-mul i) in
-      let b : p + w * i ≡ place p w 0 i = omega (arith, zero-mul i) in
+      let x = place at up down i in
+      let n = inside i h in
+      let e : p + x ≡ place (p + at) up down i = omega arith in
       ap f
-      (ap (λ (k : ℕ). take w (drop k (take (w * c) (drop p s)))) a
-      ∙ within (w * i) w (w * c) (drop p s) (mul-room w i c h)
-      ∙ ap (take w) (drop-drop (w * i) p s) ∙ ap (λ (k : ℕ). take w (drop k s)) b))
+      (within x w k (drop p s) (omega arith) ∙ ap (take w) (drop-drop x p s) ∙ ap (λ (j : ℕ). take w (drop j s)) e))
+
+-- The elements from index a on, of which the first stands at p.
+pub rest-inside : (at up down a n p w len : ℕ) → a ≤ n → down * a ≤ at + up * a → p ≡ place at up down a → Inside at up down n w len
+    → Inside p up down (n - a) w len
+rest-inside at up down a n p w len h k e inside i t =
+    let b = inside (a + i) (omega arith) in (
+      omega (arith, b .0, mul-add up a i, mul-add down a i),
+      omega (arith, b .1, mul-add up a i),
+    )
+
+-- A row in two parts of the buffer: the first has a elements, and the second, from p on, those that are left of n.
+module _ (f : List ℕ → List ℕ) (w : ℕ) (keeps : (l : List ℕ) → length l ≡ w → length (f l) ≡ w) (s : List ℕ) (at up down a n h p : ℕ)
+    (fits : a ≤ n) (before : down * a ≤ at + up * a) (next : p ≡ place at up down a) (inside : Inside at up down n w (length s))
+    (d l : List ℕ) (front : h ≡ w * a) (whole : length d ≡ w * n) (first : l ≡ rowOf f w s at up down a) where
+  abbrev begun : List ℕ
+  begun = patched 0 (h - 0) d l
+
+  pub parts-whole : (q : List ℕ) → q ≡ rowOf f w s p up down (n - a) → patched h (length begun - h) begun q ≡ rowOf f w s at up down n
+  parts-whole q e =
+      let y : a + (n - a) ≡ n = omega arith in
+      let z : w * n ≡ w * a + w * (n - a) = ap (λ (k : ℕ). w * k) (sym y) ∙ mul-add w a (n - a) in
+      let m : length l ≡ h = ap length first ∙ length-row f w keeps s at up down a (λ i k. inside i (omega arith)) ∙ sym front in
+      let r : length q ≡ length d - h =
+      ap length e ∙ length-row f w keeps s p up down (n - a) (rest-inside at up down a n p w (length s) fits before next inside) ∙ omega arith in
+      two-parts d l h (omega arith) m q r ∙ (λ i. first i ++ e i) ∙ sym (strided-add f w s at up down a (n - a) p before next)
+      ∙ ap (rowOf f w s at up down) y
 
 -- Elements that are made anew as w bytes.
 module _ (f : List ℕ → List ℕ) (w : ℕ) (some : 0 < w) (keeps : (l : List ℕ) → length l ≡ w → length (f l) ≡ w) (s : List ℕ) where
@@ -51,8 +83,11 @@ module _ (f : List ℕ → List ℕ) (w : ℕ) (some : 0 < w) (keeps : (l : List
   abbrev run : ℕ → ℕ → List ℕ
   run at n = rowOf f w s at w 0 n
 
+  inside-run : (at n : ℕ) → w * n ≤ length s - at → Inside at w 0 n w (length s)
+  inside-run at n h i k = (omega (arith, zero-mul i), omega (arith, mul-room w i n k))
+
   length-run : (at n : ℕ) → w * n ≤ length s - at → length (run at n) ≡ w * n
-  length-run at n h = length-row f w keeps s at w 0 n (λ i k. (omega (arith, zero-mul i), omega (arith, mul-room w i n k)))
+  length-run at n h = length-row f w keeps s at w 0 n (inside-run at n h)
 
   -- A turn: the next group of c is written.
   pub group-more : (at c i p o k : ℕ) (d l q : List ℕ) → w * (c * i + c) ≤ length s - at → p ≡ at + w * (c * i) → o ≡ w * (c * i) → k ≡ w * c
@@ -61,7 +96,9 @@ module _ (f : List ℕ → List ℕ) (w : ℕ) (some : 0 < w) (keeps : (l : List
       let m = c * i in
       let z : w * (m + c) ≡ w * m + w * c = mul-add w m c in
       let y : m + c ≡ c * (i + 1) = sym (mul-suc c i) ∙ ap (λ (j : ℕ). c * j) (sym (add-one i)) in
-      let x : q ≡ run (at + w * m) c = r ∙ (λ j. rowOf f w (take (b j) (drop (e j) s)) 0 w 0 c) ∙ group-is f w s (at + w * m) c in
+      let n : p + 0 ≡ at + w * m = omega arith in
+      let x : q ≡ run (at + w * m) c =
+      r ∙ group-is f w s p k 0 w 0 c (λ j t. (omega (arith, zero-mul j), omega (arith, mul-room w j c t))) ∙ ap (λ (j : ℕ). run j c) n in
       over-part (run at m) q d l o k g (length-run at m (omega arith) ∙ sym a) (ap length x ∙ length-run (at + w * m) c (omega arith) ∙ sym b)
       ∙ ap (λ (t : List ℕ). over t d) (ap (λ (t : List ℕ). run at m ++ t) x ∙ sym (row-add f w s at m c) ∙ ap (run at) y)
 
@@ -74,16 +111,9 @@ module _ (f : List ℕ → List ℕ) (w : ℕ) (some : 0 < w) (keeps : (l : List
       ∙ ap (λ (x : List ℕ). r ++ x) (drop-of-length-le d {i = length r} (omega (arith, length-run at (c * n) m))) ∙ append-nil r
 
   -- The buffer in two parts, of which the first has a elements, and the second those that are left of n.
-  module _ (at a n h : ℕ) (d p : List ℕ) (front : h ≡ w * a) (fits : a ≤ n) (whole : length d ≡ w * n) (inside : length d ≤ length s - at)
-      (first : p ≡ run at a) where
-    abbrev begun : List ℕ
-    begun = patched 0 (h - 0) d p
-
-    pub row-whole : (q : List ℕ) → q ≡ run (at + h) (n - a) → patched h (length begun - h) begun q ≡ run at n
-    row-whole q e =
-        let y : a + (n - a) ≡ n = omega arith in
-        let z : w * n ≡ w * a + w * (n - a) = ap (λ (k : ℕ). w * k) (sym y) ∙ mul-add w a (n - a) in
-        let r : q ≡ run (at + w * a) (n - a) = e ∙ ap (λ (k : ℕ). run (at + k) (n - a)) front in
-        let lp : length p ≡ h = ap length first ∙ length-run at a (omega arith) ∙ sym front in
-        let lq : length q ≡ length d - h = ap length r ∙ length-run (at + w * a) (n - a) (omega arith) ∙ omega arith in
-        two-parts d p h (omega arith) lp q lq ∙ (λ i. first i ++ r i) ∙ sym (row-add f w s at a (n - a)) ∙ ap (run at) y
+  pub row-whole : (at a n h : ℕ) (d l : List ℕ) → h ≡ w * a → a ≤ n → length d ≡ w * n → length d ≤ length s - at → l ≡ run at a
+      → let begun = patched 0 (h - 0) d l in
+      (q : List ℕ) → q ≡ run (at + h) (n - a) → patched h (length begun - h) begun q ≡ run at n
+  row-whole at a n h d l front fits whole inside first =
+      parts-whole f w keeps s at w 0 a n h (at + h) fits (omega (arith, zero-mul a)) (omega (arith, zero-mul a))
+      (inside-run at n (omega arith)) d l front whole first

@@ -1,3 +1,4 @@
 pub mod Filling
 pub mod RowLaws
 pub mod Groups
+pub mod BackwardLaws

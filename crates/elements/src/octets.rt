@@ -5,6 +5,7 @@ ghost use mathlib.Core.Bool.{true};
 ghost use Prim.Native.Nat.{_+_, _≤_};
 ghost use lib.ListN.{length, take, drop};
 ghost use Rattle.raster.specs.Strided.{patched, turned, rowOf};
+ghost use Rattle.elements.specs.Exchanged.{exchanged};
 
 pub fn get1(src: &[u8], p: usize) -> [u8; 1]
     requires { ⌜ p + 1 ≤ length (now src) ⌝ }
@@ -190,5 +191,75 @@ pub fn reverse_each4(b: [u8; 16]) -> [u8; 16]
         b[14],
         b[13],
         b[12],
+    ]
+}
+
+// Sixteen bytes as elements of two, of four, and of eight: the last of them first.
+pub fn exchange2(b: [u8; 16]) -> [u8; 16]
+    ensures { λ r. ⌜ r ≡ exchanged 2 b ⌝ }
+{
+    [
+        b[14],
+        b[15],
+        b[12],
+        b[13],
+        b[10],
+        b[11],
+        b[8],
+        b[9],
+        b[6],
+        b[7],
+        b[4],
+        b[5],
+        b[2],
+        b[3],
+        b[0],
+        b[1],
+    ]
+}
+
+pub fn exchange4(b: [u8; 16]) -> [u8; 16]
+    ensures { λ r. ⌜ r ≡ exchanged 4 b ⌝ }
+{
+    [
+        b[12],
+        b[13],
+        b[14],
+        b[15],
+        b[8],
+        b[9],
+        b[10],
+        b[11],
+        b[4],
+        b[5],
+        b[6],
+        b[7],
+        b[0],
+        b[1],
+        b[2],
+        b[3],
+    ]
+}
+
+pub fn exchange8(b: [u8; 16]) -> [u8; 16]
+    ensures { λ r. ⌜ r ≡ exchanged 8 b ⌝ }
+{
+    [
+        b[8],
+        b[9],
+        b[10],
+        b[11],
+        b[12],
+        b[13],
+        b[14],
+        b[15],
+        b[0],
+        b[1],
+        b[2],
+        b[3],
+        b[4],
+        b[5],
+        b[6],
+        b[7],
     ]
 }

@@ -1,4 +1,6 @@
 // Rows of elements that are only moved: their bytes as they stand, or reversed.
+use crate::backward::backward;
+use crate::backward::backward_reversed;
 use crate::octets::get1;
 use crate::octets::get2;
 use crate::octets::get4;
@@ -27,7 +29,7 @@ pub fn spot(at: usize, up: usize, down: usize, i: usize, w: usize, len: usize) -
     at + up * i - down * i
 }
 
-fn kept1(src: &[u8], at: usize, up: usize, down: usize, n: usize, out: &mut [u8])
+pub fn kept1(src: &[u8], at: usize, up: usize, down: usize, n: usize, out: &mut [u8])
     requires { ⌜ Inside at up down n 1 (length (now src)) ⌝ }
     requires { ⌜ length (now out) ≡ 1 * n ⌝ }
     ensures { λ _. ⌜ now (out .exit) ≡ rowOf (turned false) 1 (now (src .entry)) at up down n ⌝ }
@@ -40,7 +42,7 @@ fn kept1(src: &[u8], at: usize, up: usize, down: usize, n: usize, out: &mut [u8]
     }
 }
 
-fn kept2(src: &[u8], at: usize, up: usize, down: usize, n: usize, out: &mut [u8])
+pub fn kept2(src: &[u8], at: usize, up: usize, down: usize, n: usize, out: &mut [u8])
     requires { ⌜ Inside at up down n 2 (length (now src)) ⌝ }
     requires { ⌜ length (now out) ≡ 2 * n ⌝ }
     ensures { λ _. ⌜ now (out .exit) ≡ rowOf (turned false) 2 (now (src .entry)) at up down n ⌝ }
@@ -53,7 +55,7 @@ fn kept2(src: &[u8], at: usize, up: usize, down: usize, n: usize, out: &mut [u8]
     }
 }
 
-fn kept4(src: &[u8], at: usize, up: usize, down: usize, n: usize, out: &mut [u8])
+pub fn kept4(src: &[u8], at: usize, up: usize, down: usize, n: usize, out: &mut [u8])
     requires { ⌜ Inside at up down n 4 (length (now src)) ⌝ }
     requires { ⌜ length (now out) ≡ 4 * n ⌝ }
     ensures { λ _. ⌜ now (out .exit) ≡ rowOf (turned false) 4 (now (src .entry)) at up down n ⌝ }
@@ -66,7 +68,7 @@ fn kept4(src: &[u8], at: usize, up: usize, down: usize, n: usize, out: &mut [u8]
     }
 }
 
-fn kept8(src: &[u8], at: usize, up: usize, down: usize, n: usize, out: &mut [u8])
+pub fn kept8(src: &[u8], at: usize, up: usize, down: usize, n: usize, out: &mut [u8])
     requires { ⌜ Inside at up down n 8 (length (now src)) ⌝ }
     requires { ⌜ length (now out) ≡ 8 * n ⌝ }
     ensures { λ _. ⌜ now (out .exit) ≡ rowOf (turned false) 8 (now (src .entry)) at up down n ⌝ }
@@ -105,7 +107,7 @@ pub fn reversed4(src: &[u8], at: usize, up: usize, down: usize, n: usize, out: &
     }
 }
 
-fn reversed8(src: &[u8], at: usize, up: usize, down: usize, n: usize, out: &mut [u8])
+pub fn reversed8(src: &[u8], at: usize, up: usize, down: usize, n: usize, out: &mut [u8])
     requires { ⌜ Inside at up down n 8 (length (now src)) ⌝ }
     requires { ⌜ length (now out) ≡ 8 * n ⌝ }
     ensures { λ _. ⌜ now (out .exit) ≡ rowOf (turned true) 8 (now (src .entry)) at up down n ⌝ }
@@ -131,6 +133,12 @@ pub fn kept(src: &[u8], w: usize, at: usize, up: usize, down: usize, n: usize, o
             return;
         }
     }
+    if up == 0 {
+        if down == w {
+            backward(src, w, at, n, out);
+            return;
+        }
+    }
     if w == 8 {
         kept8(src, at, up, down, n, out);
         return;
@@ -153,6 +161,12 @@ pub fn reversed(src: &[u8], w: usize, at: usize, up: usize, down: usize, n: usiz
     requires { ⌜ length (now out) ≡ w * n ⌝ }
     ensures { λ _. ⌜ now (out .exit) ≡ rowOf (turned true) w (now (src .entry)) at up down n ⌝ }
 {
+    if up == 0 {
+        if down == w {
+            backward_reversed(src, w, at, n, out);
+            return;
+        }
+    }
     if w == 8 {
         reversed8(src, at, up, down, n, out);
         return;
