@@ -1,3 +1,4 @@
+pub mod BandLaws
 pub mod Conversions
 pub mod Flats
 pub mod Limits
