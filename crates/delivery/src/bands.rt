@@ -16,17 +16,21 @@ fn distance(up: usize, down: usize) -> usize {
     if up < down { down } else { up }
 }
 
-// Whether bands are quicker than rows: index 2 runs inside a cache line, index 1 does not, and the lines of a row are more than
-// a cache holds. Either way the bytes are the same.
+// Whether bands are quicker than rows; the bytes are the same. Index 2 runs inside a cache line, index 1 does not, and the lines
+// of a row do not stay in the cache: they share few places of it, or stand in more pages than the processor keeps.
 pub fn is_across(t: Steps, n1: usize) -> bool {
     let fast = distance(t.up2, t.down2);
+    let slow = distance(t.up1, t.down1);
     if 64 <= fast {
         return false;
     }
-    if n1 < 512 {
+    if slow % 1024 == 0 {
+        return 512 <= n1;
+    }
+    if slow < 4096 {
         return false;
     }
-    fast < distance(t.up1, t.down1)
+    2560 <= n1
 }
 
 // The elements of a band: 16, or what is left of the row.
