@@ -1,3 +1,3 @@
-pub mod Bands
 pub mod Converting
 pub mod Flat
+pub mod Tiles

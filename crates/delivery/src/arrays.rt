@@ -1,10 +1,10 @@
 // The elements of an array in the order of their indices.
-use crate::bands::bands;
-use crate::bands::is_across;
 use crate::conversion::Conversion;
 use crate::conversion::conversion_of;
 use crate::rows::row;
 use crate::rows::rows;
+use crate::tiles::are_quicker;
+use crate::tiles::bands;
 use elements::rows::spot;
 use raster::stride::Steps;
 ghost use mathlib.Core.Path.{_≡_};
@@ -33,7 +33,7 @@ fn is_flat(w: usize, n1: usize, t: Steps) -> bool
     t.up2 == w * n1
 }
 
-// A plane: as one row, where its rows stand one after another; by bands, where that is quicker; else row by row.
+// A plane: as one row, where its rows stand one after another; by tiles, where that is quicker; else row by row.
 fn plane(src: &[u8], c: Conversion, at: usize, t: Steps, n1: usize, n2: usize, out: &mut [u8])
     requires { ⌜ Width (c .width) ⌝ }
     requires { ⌜ Inside2 at (t .up1) (t .down1) n1 (t .up2) (t .down2) n2 (c .width) (length (now src)) ⌝ }
@@ -45,7 +45,7 @@ fn plane(src: &[u8], c: Conversion, at: usize, t: Steps, n1: usize, n2: usize, o
         row(src, c, at, w, 0, n1 * n2, out);
         return;
     }
-    if is_across(t, n1) {
+    if are_quicker(t, n1) {
         bands(src, c, at, t, n1, n2, out);
         return;
     }

@@ -1,4 +1,4 @@
--- `delivery::bands::bands` meets its contract. The invariant: the elements before `first` of every row are delivered.
+-- `delivery::tiles::band` meets its contract. The invariant: the elements before `first` of every row are delivered.
 use mathlib.Core.Path.{_≡_, refl, sym, ap, _∙_}
 use Prim.Native.Nat.{ℕ, _-_, _≤_}
 use native.Mathlib.Omega.{arith}
@@ -6,10 +6,10 @@ use borrow.Author.Needs.{needs}
 use lib.ListN.{length}
 use Rattle.raster.specs.Bytes.{joined}
 use Rattle.delivery.specs.Converting.{converted}
-use Rattle.delivery.proofs.BandLaws.{begun, bands-none, bands-more, bands-done}
+use Rattle.delivery.proofs.TileLaws.{begun, tiles-none, tiles-more, tiles-done}
 use Rattle.delivery.proofs.Planes.{length-converted}
-use Rattle.delivery.proofs.bands.bands.Statement.{statement}
-use Rattle.delivery.proofs.bands.bands.Tie as tie
+use Rattle.delivery.proofs.tiles.band.Statement.{statement}
+use Rattle.delivery.proofs.tiles.band.Tie as tie
 
 abbrev Inv-loop : tie.InvT-loop
 Inv-loop src c at t n1 n2 out₀ first₀ out first =
@@ -22,16 +22,18 @@ loop-holds : tie.Need-loop-holds Inv-loop μ-loop
 loop-holds c =
     let s = c .before .before in
     let a = s .args in
-    (search needs, refl, bands-none (converted (a .c)) (a .c .width) (length-converted (a .c)) (a .src .now) (a .at) (a .t) (a .n1) (a .n2) (s .pre .1 .0) (a .out .now) (s .pre .1 .1))
+    (search needs, refl, tiles-none (converted (a .c)) (a .c .width) (length-converted (a .c)) (a .src .now) (a .at) (a .t) (a .n1) (a .n2) (s .pre .1 .0) (a .out .now) (s .pre .1 .1 .2))
 
-sub-width-of-band : tie.Need-sub-width-of-band Inv-loop μ-loop
-sub-width-of-band c = omega arith
+sub-tile-width : tie.Need-sub-tile-width Inv-loop μ-loop
+sub-tile-width c = omega arith
 
-width-of-band-requires : tie.Need-width-of-band-requires Inv-loop μ-loop
-width-of-band-requires c κs = omega arith
+tile-width-requires : tie.Need-tile-width-requires Inv-loop μ-loop
+tile-width-requires c κs = omega arith
 
-band-requires : tie.Need-band-requires Inv-loop μ-loop
-band-requires c κs = let s = c .before .before .before .before .before .before in (s .pre .0, (s .pre .1 .0, omega arith))
+tile-requires : tie.Need-tile-requires Inv-loop μ-loop
+tile-requires c κs =
+    let s = c .before .before .before .before .before .before in
+    (s .pre .0, (s .pre .1 .0, (omega arith, omega arith)))
 
 add-first : tie.Need-add-first Inv-loop μ-loop
 add-first c = omega arith
@@ -48,8 +50,8 @@ loop-again c =
     let a = s .args in (
       omega arith,
       c .before .out .given ∙ l .loop .inv .1,
-      bands-more (converted (a .c)) (a .c .width) (length-converted (a .c)) (a .src .now) (a .at) (a .t) (a .n1) (a .n2) (s .pre .1 .0) (a .out .now) (s .pre .1 .1) (l .loop .first) (k .width-of-band .result) _ _
-          (omega arith) (l .loop .inv .2) (b .band .ensures),
+      tiles-more (converted (a .c)) (a .c .width) (length-converted (a .c)) (a .src .now) (a .at) (a .t) (a .n1) (a .n2) (s .pre .1 .0) (a .out .now) (s .pre .1 .1 .2) (l .loop .first) (k .tile-width .result) _ _
+          (omega arith) (l .loop .inv .2) (b .tile .ensures),
     )
 
 same-length : tie.Need-same-length Inv-loop μ-loop
@@ -60,19 +62,19 @@ returns c =
     let l = c .before in
     let s = l .before .before .before in
     let a = s .args in
-    bands-done (converted (a .c)) (a .c .width) (length-converted (a .c)) (a .src .now) (a .at) (a .t) (a .n1) (a .n2) (s .pre .1 .0) (a .out .now) (s .pre .1 .1) (l .loop .first) _ (l .loop .inv .0) (c .loop-test .left)
+    tiles-done (converted (a .c)) (a .c .width) (length-converted (a .c)) (a .src .now) (a .at) (a .t) (a .n1) (a .n2) (s .pre .1 .0) (a .out .now) (s .pre .1 .1 .2) (l .loop .first) _ (l .loop .inv .0) (c .loop-test .left)
     (l .loop .inv .2)
 
-pub bands-spec : {M : Type 1} → statement M
-bands-spec =
+pub band-spec : {M : Type 1} → statement M
+band-spec =
     tie.close
     (tie.spec
     Inv-loop
     μ-loop
     loop-holds
-    sub-width-of-band
-    width-of-band-requires
-    band-requires
+    sub-tile-width
+    tile-width-requires
+    tile-requires
     add-first
     loop-less
     loop-again
