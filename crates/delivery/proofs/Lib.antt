@@ -4,3 +4,4 @@ pub mod Limits
 pub mod Planes
 pub mod Signs
 pub mod Tables
+pub mod TileLaws

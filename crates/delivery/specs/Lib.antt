@@ -1,2 +1,3 @@
 pub mod Converting
 pub mod Flat
+pub mod Tiles

@@ -1,57 +1,20 @@
 // The elements of an array in the order of their indices.
 use crate::conversion::Conversion;
 use crate::conversion::conversion_of;
-use elements::rows::kept;
-use elements::rows::reversed;
+use crate::rows::row;
+use crate::rows::rows;
+use crate::tiles::are_quicker;
+use crate::tiles::bands;
 use elements::rows::spot;
-use offsets::adding::added;
 use raster::stride::Steps;
 ghost use mathlib.Core.Path.{_≡_};
 ghost use Prim.Native.Nat.{_*_, _^_, _<_, _≤_};
 ghost use lib.ListN.{length};
 ghost use Rattle.scan.specs.Buffer.{over};
-ghost use Rattle.raster.specs.Strided.{Inside, Inside2, Inside3, Width, rowOf, planeOf, cubeOf, deliveredAt};
+ghost use Rattle.raster.specs.Strided.{Inside2, Inside3, Width, planeOf, cubeOf, deliveredAt};
 ghost use Rattle.raster.specs.Types.{typeOf};
 ghost use Rattle.delivery.specs.Converting.{converted};
 ghost use Rattle.delivery.specs.Flat.{flat};
-
-// A row: by the loop for what its elements need.
-fn row(src: &[u8], c: Conversion, at: usize, up: usize, down: usize, n: usize, out: &mut [u8])
-    requires { ⌜ Width (c .width) ⌝ }
-    requires { ⌜ Inside at up down n (c .width) (length (now src)) ⌝ }
-    requires { ⌜ length (now out) ≡ c .width * n ⌝ }
-    ensures { λ _. ⌜ now (out .exit) ≡ rowOf (converted c) (c .width) (now (src .entry)) at up down n ⌝ }
-{
-    if c.adds {
-        let s = c.shift;
-        added(src, c.width, at, up, down, n, c.order, c.asked, s, out);
-        return;
-    }
-    if c.reverses {
-        reversed(src, c.width, at, up, down, n, out);
-        return;
-    }
-    kept(src, c.width, at, up, down, n, out);
-}
-
-// n2 rows, one after the other.
-fn rows(src: &[u8], c: Conversion, at: usize, t: Steps, n1: usize, n2: usize, out: &mut [u8])
-    requires { ⌜ Width (c .width) ⌝ }
-    requires { ⌜ Inside2 at (t .up1) (t .down1) n1 (t .up2) (t .down2) n2 (c .width) (length (now src)) ⌝ }
-    requires { ⌜ length (now out) ≡ c .width * n1 * n2 ⌝ }
-    ensures { λ _. ⌜ now (out .exit) ≡ planeOf (converted c) (c .width) (now (src .entry)) at (t .up1) (t .down1) n1 (t .up2) (t .down2) n2 ⌝ }
-{
-    let w = c.width;
-    let mut i = 0;
-    let mut o = 0;
-    while i < n2 {
-        let p = spot(at, t.up2, t.down2, i, 0, src.len());
-        let e = o + w * n1;
-        row(src, c, p, t.up1, t.down1, n1, &mut out[o..e]);
-        o = e;
-        i += 1;
-    }
-}
 
 // Whether the rows of a plane stand one after another.
 fn is_flat(w: usize, n1: usize, t: Steps) -> bool
@@ -70,7 +33,7 @@ fn is_flat(w: usize, n1: usize, t: Steps) -> bool
     t.up2 == w * n1
 }
 
-// A plane: as one row, where its rows stand one after another.
+// A plane: as one row, where its rows stand one after another; by tiles, where that is quicker; else row by row.
 fn plane(src: &[u8], c: Conversion, at: usize, t: Steps, n1: usize, n2: usize, out: &mut [u8])
     requires { ⌜ Width (c .width) ⌝ }
     requires { ⌜ Inside2 at (t .up1) (t .down1) n1 (t .up2) (t .down2) n2 (c .width) (length (now src)) ⌝ }
@@ -80,6 +43,10 @@ fn plane(src: &[u8], c: Conversion, at: usize, t: Steps, n1: usize, n2: usize, o
     let w = c.width;
     if is_flat(w, n1, t) {
         row(src, c, at, w, 0, n1 * n2, out);
+        return;
+    }
+    if are_quicker(t, n1) {
+        bands(src, c, at, t, n1, n2, out);
         return;
     }
     rows(src, c, at, t, n1, n2, out);

@@ -1,4 +1,4 @@
--- `delivery::arrays::plane` meets its contract: as one row, or row by row.
+-- `delivery::arrays::plane` meets its contract: as one row, by tiles, or row by row.
 use mathlib.Core.Path.{sym, _∙_}
 use native.Mathlib.Omega.{arith}
 use lib.ListN.{length}
@@ -41,14 +41,29 @@ returns c =
     let a = s .args in
     r .row .ensures ∙ flat-row (a .c .width) (a .n1) (a .n2) (a .at) (a .t) (sym (t .before .is-flat .ensures) ∙ t .if1 .taken) (converted (a .c)) (a .src .now)
 
-rows-requires : tie.Need-rows-requires
-rows-requires c κs = search needs
+are-quicker-requires : tie.Need-are-quicker-requires
+are-quicker-requires c κs = search needs
+
+bands-requires : tie.Need-bands-requires
+bands-requires c κs =
+    let q = c .before in
+    let s = q .before .before .before .before .before .before in
+    ((s .pre .0, q .before .are-quicker .ensures (q .if2 .taken)), (s .pre .1 .0, s .pre .1 .1 .1))
 
 same-length-2 : tie.Need-same-length-2
 same-length-2 c = search needs
 
 returns-2 : tie.Need-returns-2
 returns-2 c = search needs
+
+rows-requires : tie.Need-rows-requires
+rows-requires c κs = search needs
+
+same-length-3 : tie.Need-same-length-3
+same-length-3 c = search needs
+
+returns-3 : tie.Need-returns-3
+returns-3 c = search needs
 
 pub plane-spec : {M : Type 1} → statement M
 plane-spec =
@@ -59,6 +74,10 @@ plane-spec =
     row-requires
     same-length
     returns
-    rows-requires
+    are-quicker-requires
+    bands-requires
     same-length-2
-    returns-2)
+    returns-2
+    rows-requires
+    same-length-3
+    returns-3)

@@ -1,4 +1,4 @@
--- `delivery::arrays::rows` meets its contract. The invariant: the first i rows are written.
+-- `delivery::rows::rows` meets its contract. The invariant: the first i rows are written.
 use mathlib.Core.Path.{_≡_, refl, sym, ap, subst, _∙_}
 use mathlib.Core.List.{List}
 use Prim.Native.Nat.{ℕ, _+_, _*_, _-_, _≤_}
@@ -11,8 +11,8 @@ use Rattle.raster.specs.Strided.{place, Inside, rowOf, planeOf}
 use Rattle.elements.proofs.Filling.{piece-more, pieces-done, mul-room, mul-next}
 use Rattle.delivery.specs.Converting.{converted}
 use Rattle.delivery.proofs.Planes.{length-rows}
-use Rattle.delivery.proofs.arrays.rows.Statement.{statement}
-use Rattle.delivery.proofs.arrays.rows.Tie as tie
+use Rattle.delivery.proofs.rows.rows.Statement.{statement}
+use Rattle.delivery.proofs.rows.rows.Tie as tie
 
 abbrev Inv-loop : tie.InvT-loop
 Inv-loop src c at t n1 n2 out₀ w i₀ o₀ out i o =

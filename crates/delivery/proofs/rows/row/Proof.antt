@@ -1,4 +1,4 @@
--- `delivery::arrays::row` meets its contract: each way calls the loop for what the elements need.
+-- `delivery::rows::row` meets its contract: each way calls the loop for what the elements need.
 use mathlib.Core.Path.{sym, ap, _∙_}
 use mathlib.Core.Bool.{Bool, cond}
 use mathlib.Core.List.{List}
@@ -7,8 +7,8 @@ use borrow.Author.Needs.{needs}
 use Rattle.raster.specs.Strided.{turned, rowOf}
 use Rattle.offsets.specs.Shifting.{shiftedBytes}
 use Rattle.delivery.specs.Converting.{converted}
-use Rattle.delivery.proofs.arrays.row.Statement.{statement}
-use Rattle.delivery.proofs.arrays.row.Tie as tie
+use Rattle.delivery.proofs.rows.row.Statement.{statement}
+use Rattle.delivery.proofs.rows.row.Tie as tie
 
 added-requires : tie.Need-added-requires
 added-requires c κs = search needs
