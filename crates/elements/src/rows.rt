@@ -161,6 +161,18 @@ pub fn reversed(src: &[u8], w: usize, at: usize, up: usize, down: usize, n: usiz
     requires { ⌜ length (now out) ≡ w * n ⌝ }
     ensures { λ _. ⌜ now (out .exit) ≡ rowOf (turned true) w (now (src .entry)) at up down n ⌝ }
 {
+    if up == w {
+        if down == 0 {
+            if w == 4 {
+                reversed_run4(src, at, n, out);
+                return;
+            }
+            if w == 2 {
+                reversed_run2(src, at, n, out);
+                return;
+            }
+        }
+    }
     if up == 0 {
         if down == w {
             backward_reversed(src, w, at, n, out);
@@ -172,22 +184,10 @@ pub fn reversed(src: &[u8], w: usize, at: usize, up: usize, down: usize, n: usiz
         return;
     }
     if w == 4 {
-        if up == 4 {
-            if down == 0 {
-                reversed_run4(src, at, n, out);
-                return;
-            }
-        }
         reversed4(src, at, up, down, n, out);
         return;
     }
     if w == 2 {
-        if up == 2 {
-            if down == 0 {
-                reversed_run2(src, at, n, out);
-                return;
-            }
-        }
         reversed2(src, at, up, down, n, out);
         return;
     }
