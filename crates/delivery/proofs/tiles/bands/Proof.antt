@@ -11,7 +11,8 @@ use Rattle.raster.specs.Strided.{Inside2, planeOf}
 use Rattle.elements.proofs.Filling.{mul-room}
 use Rattle.delivery.specs.Converting.{converted}
 use Rattle.delivery.proofs.Planes.{length-converted}
-use Rattle.delivery.proofs.TileLaws.{within, band-inside, bands-more, bands-done}
+use Rattle.delivery.proofs.BandLaws.{band-inside, bands-more, bands-done}
+use Rattle.delivery.proofs.TileLaws.{within}
 use Rattle.delivery.proofs.tiles.bands.Statement.{statement}
 use Rattle.delivery.proofs.tiles.bands.Tie as tie
 

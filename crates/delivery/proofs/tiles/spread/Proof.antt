@@ -12,7 +12,8 @@ use Rattle.raster.specs.Strided.{turned, Inside, rowOf}
 use Rattle.elements.proofs.Filling.{mul-room}
 use Rattle.elements.proofs.RowLaws.{keeps, length-row}
 use Rattle.delivery.specs.Tiles.{tiled}
-use Rattle.delivery.proofs.TileLaws.{within, copy-inside, tile-more, tile-done}
+use Rattle.delivery.proofs.TileCopies.{copy-inside}
+use Rattle.delivery.proofs.TileLaws.{within, tile-more, tile-done}
 use Rattle.delivery.proofs.tiles.spread.Statement.{statement}
 use Rattle.delivery.proofs.tiles.spread.Tie as tie
 

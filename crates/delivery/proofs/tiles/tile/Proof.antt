@@ -9,9 +9,9 @@ use borrow.Rule.Slice.PartMut.{putMid, same-len-mid}
 use lib.ListN.{length, take, drop, replicate, length-take, length-replicate}
 use Rattle.raster.specs.Strided.{Inside2, planeOf}
 use Rattle.delivery.specs.Converting.{converted}
-use Rattle.delivery.specs.Tiles.{tileRow}
 use Rattle.delivery.proofs.Planes.{length-converted}
-use Rattle.delivery.proofs.TileLaws.{first-row, columns-inside, front-is, tile-rows, tiled-same}
+use Rattle.delivery.proofs.TileCopies.{first-row, columns-inside, front-is, tile-rows}
+use Rattle.delivery.proofs.TileLaws.{tiled-same}
 use Rattle.delivery.proofs.tiles.tile.Statement.{statement}
 use Rattle.delivery.proofs.tiles.tile.Tie as tie
 
