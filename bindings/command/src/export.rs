@@ -4,7 +4,8 @@ use crate::failure::{Failure, Status};
 use crate::input;
 use crate::output::Output;
 use crate::progress::Progress;
-use edf::{Array, ByteOrder, DataType, Description, File};
+use edf::{Array, ByteOrder, DataType, Description, Error, File};
+use std::borrow::Cow;
 use std::ffi::OsStr;
 use std::io::{self, Write};
 use std::path::Path;
@@ -26,11 +27,19 @@ pub fn export(path: &OsStr, block: usize, out: &OsStr, output: &mut Output) -> R
     let (start, order) = preamble(format, array.description()).map_err(|why| Failure::refused(path, why))?;
     let mut progress = Progress::new();
     progress.stage(&format!("putting the array of {} in order", path.to_string_lossy()), array.description().byte_length());
-    let pixels = array.read(order).map_err(|error| Failure::refused(path, error))?;
+    let pixels = in_order(&array, order).map_err(|error| Failure::refused(path, error))?;
     drop(progress);
     save(out, &start, &pixels).map_err(|error| Failure::unreadable(out, &error))?;
     output.line(&format!("{}: {}", out.to_string_lossy(), summary(&array, order, start.len() + pixels.len())))?;
     Ok(Status::Well)
+}
+
+/// The bytes of an array in an order: a part of the file where it has them so, else made anew.
+fn in_order<'a>(array: &Array<'a>, order: ByteOrder) -> Result<Cow<'a, [u8]>, Error> {
+    Ok(match array.bytes(order)? {
+        Some(part) => part.into(),
+        None => array.read(order)?.into(),
+    })
 }
 
 fn format_of(out: &OsStr) -> Result<Format, Failure> {
