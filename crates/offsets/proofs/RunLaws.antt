@@ -29,7 +29,7 @@ pub short-some : {w : ℕ} → Short w → 0 < w
 short-some (inl e) = omega arith
 short-some (inr e) = omega arith
 
-pub short-most : {w : ℕ} → Short w → (k : ℕ) → k ≤ 512 → w * k ≤ 2048
+pub short-most : {w : ℕ} → Short w → (k : ℕ) → k ≤ 256 → w * k ≤ 1024
 short-most {w} (inl e) k h = let m = mul-le-mul-left w h in omega arith
 short-most {w} (inr e) k h = let m = mul-le-mul-left w h in omega arith
 

@@ -11,7 +11,6 @@ use crate::shift::Shift;
 use crate::shift::converted;
 use crate::shift::shifted_u8;
 use crate::shift::shifted_u16;
-use crate::shift::shifted_u32;
 use elements::octets::get1;
 use elements::octets::get2;
 use elements::octets::get4;
@@ -21,7 +20,6 @@ use elements::octets::put2;
 use elements::octets::put4;
 use elements::octets::put8;
 use elements::octets::reverse2;
-use elements::octets::reverse4;
 use elements::rows::spot;
 ghost use mathlib.Core.Path.{_≡_};
 ghost use Prim.Native.Nat.{_*_};
@@ -43,22 +41,16 @@ fn turn2(b: [u8; 2], order: u8) -> [u8; 2]
     if order == 1 { reverse2(b) } else { b }
 }
 
-fn turn4(b: [u8; 4], order: u8) -> [u8; 4]
-    ensures { λ r. ⌜ r ≡ turned (eqb order 1) b ⌝ }
-{
-    if order == 1 { reverse4(b) } else { b }
-}
-
 pub fn add2(b: [u8; 2], order: u8, asked: u8, s: Shift) -> [u8; 2]
     ensures { λ r. ⌜ r ≡ shiftedBytes 2 s order asked b ⌝ }
 {
     turn2(bytes2(shifted_u16(low2(turn2(b, order)), s)), asked)
 }
 
-pub fn add4(b: [u8; 4], order: u8, asked: u8, s: Shift) -> [u8; 4]
+fn add4(b: [u8; 4], order: u8, asked: u8, s: Shift) -> [u8; 4]
     ensures { λ r. ⌜ r ≡ shiftedBytes 4 s order asked b ⌝ }
 {
-    turn4(bytes4(shifted_u32(low4(turn4(b, order)), s)), asked)
+    bytes4(converted(low4(b), 4294967296, order, asked, s))
 }
 
 fn add8(b: [u8; 8], order: u8, asked: u8, s: Shift) -> [u8; 8]

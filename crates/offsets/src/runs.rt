@@ -1,8 +1,10 @@
-// Runs: elements of two or four bytes that stand one after another, 512 a turn. The offset is added with the low byte first, at
+// Runs: elements of two or four bytes that stand one after another, 256 a turn. The offset is added with the low byte first, at
 // a stride that the compiler knows, so that it takes several at once; bytes are reversed before and after, by way of local arrays.
 use crate::adding::add2;
-use crate::adding::add4;
+use crate::numbers::bytes4_u32;
+use crate::numbers::low4_u32;
 use crate::shift::Shift;
+use crate::shift::shifted_u32;
 use elements::octets::get2;
 use elements::octets::get4;
 use elements::octets::put2;
@@ -47,6 +49,13 @@ fn low_run2(src: &[u8], at: usize, n: usize, s: Shift, out: &mut [u8])
     }
 }
 
+// As a number of 32 bits: quicker here than at the high end of 64, and slower by half at a stride that the compiler does not know.
+fn low_add4(b: [u8; 4], s: Shift) -> [u8; 4]
+    ensures { λ r. ⌜ r ≡ shiftedBytes 4 s 2 2 b ⌝ }
+{
+    bytes4_u32(shifted_u32(low4_u32(b), s))
+}
+
 fn low_run4(src: &[u8], at: usize, n: usize, s: Shift, out: &mut [u8])
     requires { ⌜ length (now out) ≤ length (now src) - at ⌝ }
     requires { ⌜ length (now out) ≡ 4 * n ⌝ }
@@ -54,7 +63,7 @@ fn low_run4(src: &[u8], at: usize, n: usize, s: Shift, out: &mut [u8])
 {
     let mut i = 0;
     while i < n {
-        put4(out, 4 * i, add4(get4(src, at + 4 * i), 2, 2, s));
+        put4(out, 4 * i, low_add4(get4(src, at + 4 * i), s));
         i += 1;
     }
 }
@@ -75,14 +84,14 @@ fn low_run(src: &[u8], w: usize, at: usize, n: usize, s: Shift, out: &mut [u8])
 
 // Stored with the low byte first, and asked for in either order.
 fn low_block(src: &[u8], w: usize, at: usize, n: usize, asked: u8, s: Shift, out: &mut [u8])
-    requires { ⌜ Short w × (length (now out) ≤ 2048) ⌝ }
+    requires { ⌜ Short w × (length (now out) ≤ 1024) ⌝ }
     requires { ⌜ length (now out) ≤ length (now src) - at ⌝ }
     requires { ⌜ length (now out) ≡ w * n ⌝ }
     ensures { λ _. ⌜ now (out .exit) ≡ rowOf (shiftedBytes w s 2 asked) w (now (src .entry)) at w 0 n ⌝ }
 {
     if asked == 1 {
         let e = out.len();
-        let mut made = [0u8; 2048];
+        let mut made = [0u8; 1024];
         low_run(src, w, at, n, s, &mut made[0..e]);
         reversed(&made[0..e], w, 0, w, 0, n, out);
         return;
@@ -91,14 +100,14 @@ fn low_block(src: &[u8], w: usize, at: usize, n: usize, asked: u8, s: Shift, out
 }
 
 fn block(src: &[u8], w: usize, at: usize, n: usize, order: u8, asked: u8, s: Shift, out: &mut [u8])
-    requires { ⌜ Short w × (length (now out) ≤ 2048) ⌝ }
+    requires { ⌜ Short w × (length (now out) ≤ 1024) ⌝ }
     requires { ⌜ length (now out) ≤ length (now src) - at ⌝ }
     requires { ⌜ length (now out) ≡ w * n ⌝ }
     ensures { λ _. ⌜ now (out .exit) ≡ rowOf (shiftedBytes w s order asked) w (now (src .entry)) at w 0 n ⌝ }
 {
     if order == 1 {
         let e = out.len();
-        let mut held = [0u8; 2048];
+        let mut held = [0u8; 1024];
         reversed(src, w, at, w, 0, n, &mut held[0..e]);
         low_block(&held[0..e], w, 0, n, asked, s, out);
         return;
@@ -109,9 +118,9 @@ fn block(src: &[u8], w: usize, at: usize, n: usize, order: u8, asked: u8, s: Shi
 // The elements of the next block.
 fn next(left: usize) -> usize
     requires { ⌜ 0 < left ⌝ }
-    ensures { λ r. ⌜ (0 < r) × (r ≤ left) × (r ≤ 512) ⌝ }
+    ensures { λ r. ⌜ (0 < r) × (r ≤ left) × (r ≤ 256) ⌝ }
 {
-    if left < 512 { left } else { 512 }
+    if left < 256 { left } else { 256 }
 }
 
 pub fn run(

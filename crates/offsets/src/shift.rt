@@ -5,8 +5,8 @@ ghost use Prim.Native.Nat.{_*_, _/_, _^_, _<_, _≤_, min, max};
 ghost use Rattle.offsets.specs.Shifting.{shiftBy, shiftHigh, alignedFrom, restoredTo};
 
 // For elements whose bytes stand at the high end of 64 bits: `flip` is added, modulo 2^64, so that signed values stand in
-// order; then the value is held between `low` and `high`; then `delta` is added, modulo 2^64. Elements of one, two
-// and four bytes are shifted as numbers of 8, 16 and 32 bits, so that the compiler takes several at once.
+// order; then the value is held between `low` and `high`; then `delta` is added, modulo 2^64. Elements of one and two bytes,
+// and of four in runs, are shifted as numbers of 8, 16 and 32 bits, so that the compiler takes several at once.
 pub struct Shift {
     pub flip: u64,
     pub low: u64,

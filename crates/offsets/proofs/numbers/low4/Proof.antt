@@ -6,29 +6,29 @@ use borrow.Author.Needs.{needs}
 use Rattle.offsets.proofs.numbers.low4.Statement.{statement}
 use Rattle.offsets.proofs.numbers.low4.Tie as tie
 
-array-read-wide-u32 : tie.Need-array-read-wide-u32
-array-read-wide-u32 c = search needs
+array-read-wide : tie.Need-array-read-wide
+array-read-wide c = search needs
 
-wide-u32-requires : tie.Need-wide-u32-requires
-wide-u32-requires c κs = search needs
+wide-requires : tie.Need-wide-requires
+wide-requires c κs = search needs
 
-array-read-wide-u32-2 : tie.Need-array-read-wide-u32-2
-array-read-wide-u32-2 c = search needs
+array-read-wide-2 : tie.Need-array-read-wide-2
+array-read-wide-2 c = search needs
 
-wide-u32-requires-2 : tie.Need-wide-u32-requires-2
-wide-u32-requires-2 c κs = search needs
+wide-requires-2 : tie.Need-wide-requires-2
+wide-requires-2 c κs = search needs
 
-array-read-wide-u32-3 : tie.Need-array-read-wide-u32-3
-array-read-wide-u32-3 c = search needs
+array-read-wide-3 : tie.Need-array-read-wide-3
+array-read-wide-3 c = search needs
 
-wide-u32-requires-3 : tie.Need-wide-u32-requires-3
-wide-u32-requires-3 c κs = search needs
+wide-requires-3 : tie.Need-wide-requires-3
+wide-requires-3 c κs = search needs
 
-array-read-wide-u32-4 : tie.Need-array-read-wide-u32-4
-array-read-wide-u32-4 c = search needs
+array-read-wide-4 : tie.Need-array-read-wide-4
+array-read-wide-4 c = search needs
 
-wide-u32-requires-4 : tie.Need-wide-u32-requires-4
-wide-u32-requires-4 c κs = search needs
+wide-requires-4 : tie.Need-wide-requires-4
+wide-requires-4 c κs = search needs
 
 mul-result : tie.Need-mul-result
 mul-result c = search needs
@@ -56,14 +56,14 @@ pub low4-spec : {M : Type 1} → statement M
 low4-spec =
     tie.close
     (tie.spec
-    array-read-wide-u32
-    wide-u32-requires
-    array-read-wide-u32-2
-    wide-u32-requires-2
-    array-read-wide-u32-3
-    wide-u32-requires-3
-    array-read-wide-u32-4
-    wide-u32-requires-4
+    array-read-wide
+    wide-requires
+    array-read-wide-2
+    wide-requires-2
+    array-read-wide-3
+    wide-requires-3
+    array-read-wide-4
+    wide-requires-4
     mul-result
     add-result
     mul-result-2

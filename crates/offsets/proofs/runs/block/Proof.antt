@@ -21,13 +21,13 @@ part-held-start : tie.Need-part-held-start
 part-held-start c = search needs
 
 part-held-end : tie.Need-part-held-end
-part-held-end c = omega (arith, length-replicate {A = ℕ} 2048 0)
+part-held-end c = omega (arith, length-replicate {A = ℕ} 1024 0)
 
 reversed-requires : tie.Need-reversed-requires
 reversed-requires c κs =
     let s = c .before .before .before .before in
     let a = s .args in
-    let m = front-length 2048 (length (a .out .now)) (replicate {A = ℕ} 2048 0) (length-replicate {A = ℕ} 2048 0) (s .pre .0 .1) in (
+    let m = front-length 1024 (length (a .out .now)) (replicate {A = ℕ} 1024 0) (length-replicate {A = ℕ} 1024 0) (s .pre .0 .1) in (
       short-width (s .pre .0 .0),
       (inside-run (a .w) (a .at) (a .n) _ (short-some (s .pre .0 .0)) (omega (arith, s .pre .1 .0, s .pre .1 .1)), m ∙ s .pre .1 .1),
     )
@@ -41,11 +41,11 @@ part-low-block-start c = search needs
 -- The array keeps its length.
 whole : (c : tie.After-held2)
     → let a = c .before .before .before .before .before .before .args in
-    length (putMid 0 (length (a .out .now) - 0) (replicate {A = ℕ} 2048 0) (c .before .reversed .last .1 .1 .1 .1 .1 .1 .0)) ≡ 2048
+    length (putMid 0 (length (a .out .now) - 0) (replicate {A = ℕ} 1024 0) (c .before .reversed .last .1 .1 .1 .1 .1 .1 .0)) ≡ 1024
 whole c =
     let a = c .before .before .before .before .before .before .args in
-    same-len-mid 0 (length (a .out .now) - 0) (replicate {A = ℕ} 2048 0) (c .before .reversed .last .1 .1 .1 .1 .1 .1 .0) (c .held2 .given)
-    ∙ length-replicate {A = ℕ} 2048 0
+    same-len-mid 0 (length (a .out .now) - 0) (replicate {A = ℕ} 1024 0) (c .before .reversed .last .1 .1 .1 .1 .1 .1 .0) (c .held2 .given)
+    ∙ length-replicate {A = ℕ} 1024 0
 
 part-low-block-end : tie.Need-part-low-block-end
 part-low-block-end c = omega (arith, whole (c .before))
@@ -56,7 +56,7 @@ low-block-requires c κs =
     let s = b .before .before .before .before .before .before in
     let a = s .args in
     let e = length (a .out .now) in
-    let m = front-length 2048 e (putMid 0 (e - 0) (replicate {A = ℕ} 2048 0) (b .before .reversed .last .1 .1 .1 .1 .1 .1 .0)) (whole b) (s .pre .0 .1) in
+    let m = front-length 1024 e (putMid 0 (e - 0) (replicate {A = ℕ} 1024 0) (b .before .reversed .last .1 .1 .1 .1 .1 .1 .0)) (whole b) (s .pre .0 .1) in
     (s .pre .0, (omega (arith, m), s .pre .1 .1))
 
 same-length : tie.Need-same-length

@@ -21,13 +21,13 @@ part-made-start : tie.Need-part-made-start
 part-made-start c = search needs
 
 part-made-end : tie.Need-part-made-end
-part-made-end c = omega (arith, length-replicate {A = ℕ} 2048 0)
+part-made-end c = omega (arith, length-replicate {A = ℕ} 1024 0)
 
 low-run-requires : tie.Need-low-run-requires
 low-run-requires c κs =
     let s = c .before .before .before .before in
     let e = length (s .args .out .now) in
-    let m = front-length 2048 e (replicate {A = ℕ} 2048 0) (length-replicate {A = ℕ} 2048 0) (s .pre .0 .1) in
+    let m = front-length 1024 e (replicate {A = ℕ} 1024 0) (length-replicate {A = ℕ} 1024 0) (s .pre .0 .1) in
     (s .pre .0 .0, (omega (arith, m, s .pre .1 .0), m ∙ s .pre .1 .1))
 
 sub-reversed : tie.Need-sub-reversed
@@ -39,11 +39,11 @@ part-reversed-start c = search needs
 -- The array keeps its length.
 whole : (c : tie.After-made2)
     → let a = c .before .before .before .before .before .before .args in
-    length (putMid 0 (length (a .out .now) - 0) (replicate {A = ℕ} 2048 0) (c .before .low-run .last .1 .1 .1 .1 .1 .0)) ≡ 2048
+    length (putMid 0 (length (a .out .now) - 0) (replicate {A = ℕ} 1024 0) (c .before .low-run .last .1 .1 .1 .1 .1 .0)) ≡ 1024
 whole c =
     let a = c .before .before .before .before .before .before .args in
-    same-len-mid 0 (length (a .out .now) - 0) (replicate {A = ℕ} 2048 0) (c .before .low-run .last .1 .1 .1 .1 .1 .0) (c .made2 .given)
-    ∙ length-replicate {A = ℕ} 2048 0
+    same-len-mid 0 (length (a .out .now) - 0) (replicate {A = ℕ} 1024 0) (c .before .low-run .last .1 .1 .1 .1 .1 .0) (c .made2 .given)
+    ∙ length-replicate {A = ℕ} 1024 0
 
 part-reversed-end : tie.Need-part-reversed-end
 part-reversed-end c = omega (arith, whole (c .before))
@@ -53,7 +53,7 @@ reversed-requires c κs =
     let b = c .before .before .before in
     let s = b .before .before .before .before .before .before in
     let a = s .args in
-    let m = front-length 2048 (length (a .out .now)) (putMid 0 (length (a .out .now) - 0) (replicate {A = ℕ} 2048 0) (b .before .low-run .last .1 .1 .1 .1 .1 .0)) (whole b) (s .pre .0 .1) in (
+    let m = front-length 1024 (length (a .out .now)) (putMid 0 (length (a .out .now) - 0) (replicate {A = ℕ} 1024 0) (b .before .low-run .last .1 .1 .1 .1 .1 .0)) (whole b) (s .pre .0 .1) in (
       short-width (s .pre .0 .0),
       (inside-run (a .w) 0 (a .n) _ (short-some (s .pre .0 .0)) (omega (arith, m, s .pre .1 .1)), s .pre .1 .1),
     )

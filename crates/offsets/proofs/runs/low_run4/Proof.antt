@@ -36,8 +36,8 @@ add-get4 c = omega arith
 get4-requires : tie.Need-get4-requires Inv-loop μ-loop
 get4-requires c κs = omega arith
 
-add4-requires : tie.Need-add4-requires Inv-loop μ-loop
-add4-requires c κs = search needs
+low-add4-requires : tie.Need-low-add4-requires Inv-loop μ-loop
+low-add4-requires c κs = search needs
 
 put4-requires : tie.Need-put4-requires Inv-loop μ-loop
 put4-requires c κs = omega arith
@@ -60,7 +60,7 @@ loop-again c =
       c .before .out .given ∙ l .loop .inv .1,
       w .put4 .ensures
           ∙ next-more (shiftedBytes 4 (a .s) 2 2) 4 (length-shifted (a .s) 2 2) (a .src .now) (a .at) (a .n) (omega arith) (omega arith) i (a .at + 4 * i)
-          (a .out .now) _ _ (omega arith) refl (l .loop .inv .2) (w .before .add4 .ensures ∙ ap (shiftedBytes 4 (a .s) 2 2) (g .get4 .ensures)),
+          (a .out .now) _ _ (omega arith) refl (l .loop .inv .2) (w .before .low-add4 .ensures ∙ ap (shiftedBytes 4 (a .s) 2 2) (g .get4 .ensures)),
     )
 
 same-length : tie.Need-same-length Inv-loop μ-loop
@@ -85,7 +85,7 @@ low-run4-spec =
     mul-get4
     add-get4
     get4-requires
-    add4-requires
+    low-add4-requires
     put4-requires
     add-i
     loop-less
