@@ -1,3 +1,4 @@
+pub mod RunLaws
 pub mod Scaling
 pub mod Sums
 pub mod Swaps

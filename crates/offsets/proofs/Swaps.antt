@@ -115,7 +115,7 @@ shifted-is w s order asked l some k h e =
     ∙ sym (bytes-turned asked w (shiftBy w s n))
 
 -- An element read in its own order, shifted, and written in the order asked for.
-pub turned-twice : (w : ℕ) (s : Shift) (order asked : ℕ) (l : List ℕ)
+turned-twice : (w : ℕ) (s : Shift) (order asked : ℕ) (l : List ℕ)
     → turned (eqb asked 1) (lowBytes w (shiftBy w s (lowFirst (turned (eqb order 1) l)))) ≡ shiftedBytes w s order asked l
 unfolding shiftedBytes numberOf
 turned-twice w s order asked l =
@@ -125,6 +125,12 @@ turned-twice w s order asked l =
     read-by : (back : Bool) (l : List ℕ) → lowFirst (turned back l) ≡ cond back (highFirst 0 l) (lowFirst l)
     read-by true l = high-of l
     read-by false l = refl
+
+-- The same, step by step.
+pub turned-steps : (w : ℕ) (s : Shift) (order asked : ℕ) (b t d r : List ℕ) (n m : ℕ) → t ≡ turned (eqb order 1) b → n ≡ lowFirst t
+    → m ≡ shiftBy w s n → d ≡ lowBytes w m → r ≡ turned (eqb asked 1) d → r ≡ shiftedBytes w s order asked b
+turned-steps w s order asked b t d r n m et en em ed er =
+    er ∙ ap (turned (eqb asked 1)) (ed ∙ ap (lowBytes w) (em ∙ ap (shiftBy w s) (en ∙ ap lowFirst et))) ∙ turned-twice w s order asked b
 
 -- Of one byte there is no order.
 pub one-byte : (s : Shift) (order asked : ℕ) (l : List ℕ) (r : ℕ) → length l ≡ 1 → r ≡ shiftBy 1 s (getD l 0 0) → r < 256

@@ -1,5 +1,6 @@
 -- What a `Shift` does to an element, and when it adds an offset.
 use mathlib.Core.Path.{_≡_}
+use mathlib.Core.Logic.{_⊎_}
 use mathlib.Core.Bool.{Bool, cond}
 use mathlib.Core.List.{List, reverse}
 use Prim.Native.Nat.{ℕ, _+_, _-_, _*_, _/_, _%_, _^_, _<_, min, max}
@@ -38,6 +39,10 @@ restoredTo asked k r = cond (eqb asked 1) (swapped r) (r / k)
 -- Of the bytes of an element.
 unfoldable pub shiftedBytes : ℕ → Shift → ℕ → ℕ → List ℕ → List ℕ
 shiftedBytes w s order asked l = bytesOf asked w (shiftBy w s (numberOf order l))
+
+-- The widths of the elements that are taken in runs.
+abbrev pub Short : ℕ → Type 0
+Short w = (w ≡ 2) ⊎ (w ≡ 4)
 
 -- The classes that an offset is added to.
 abbrev pub integer : Bool → Class

@@ -5,6 +5,8 @@ use crate::numbers::bytes8;
 use crate::numbers::low2;
 use crate::numbers::low4;
 use crate::numbers::low8;
+use crate::runs::is_run;
+use crate::runs::run;
 use crate::shift::Shift;
 use crate::shift::converted;
 use crate::shift::shifted_u8;
@@ -39,7 +41,7 @@ fn turn2(b: [u8; 2], order: u8) -> [u8; 2]
     if order == 1 { reverse2(b) } else { b }
 }
 
-fn add2(b: [u8; 2], order: u8, asked: u8, s: Shift) -> [u8; 2]
+pub fn add2(b: [u8; 2], order: u8, asked: u8, s: Shift) -> [u8; 2]
     ensures { λ r. ⌜ r ≡ shiftedBytes 2 s order asked b ⌝ }
 {
     turn2(bytes2(shifted_u16(low2(turn2(b, order)), s)), asked)
@@ -150,7 +152,7 @@ fn added8(
 }
 
 // A row at any width: by the loop that is made for it.
-pub fn added(
+fn strided(
     src: &[u8],
     w: usize,
     at: usize,
@@ -180,4 +182,29 @@ pub fn added(
         return;
     }
     added1(src, at, up, down, n, order, asked, s, out);
+}
+
+// A long run goes by blocks, and any other row element by element.
+pub fn added(
+    src: &[u8],
+    w: usize,
+    at: usize,
+    up: usize,
+    down: usize,
+    n: usize,
+    order: u8,
+    asked: u8,
+    s: Shift,
+    out: &mut [u8],
+)
+    requires { ⌜ Width w ⌝ }
+    requires { ⌜ Inside at up down n w (length (now src)) ⌝ }
+    requires { ⌜ length (now out) ≡ w * n ⌝ }
+    ensures { λ _. ⌜ now (out .exit) ≡ rowOf (shiftedBytes w s order asked) w (now (src .entry)) at up down n ⌝ }
+{
+    if is_run(w, up, down, n) {
+        run(src, w, at, n, order, asked, s, out);
+        return;
+    }
+    strided(src, w, at, up, down, n, order, asked, s, out);
 }

@@ -19,6 +19,12 @@ fn wide_u16(b: u8) -> u16
     b as u16
 }
 
+fn wide_u32(b: u8) -> u32
+    ensures { λ r. ⌜ (r ≡ b) × (r < 256) ⌝ }
+{
+    b as u32
+}
+
 pub fn low2(b: [u8; 2]) -> u16
     ensures { λ r. ⌜ (r ≡ lowFirst b) × Octets b ⌝ }
 {
@@ -34,6 +40,16 @@ pub fn low4(b: [u8; 4]) -> u64
     let b1 = wide(b[1]);
     let b2 = wide(b[2]);
     let b3 = wide(b[3]);
+    b0 + b1 * 256 + b2 * 65536 + b3 * 16777216
+}
+
+pub fn low4_u32(b: [u8; 4]) -> u32
+    ensures { λ r. ⌜ (r ≡ lowFirst b) × Octets b ⌝ }
+{
+    let b0 = wide_u32(b[0]);
+    let b1 = wide_u32(b[1]);
+    let b2 = wide_u32(b[2]);
+    let b3 = wide_u32(b[3]);
     b0 + b1 * 256 + b2 * 65536 + b3 * 16777216
 }
 
@@ -66,6 +82,20 @@ pub fn bytes2(v: u16) -> [u8; 2]
 }
 
 pub fn bytes4(v: u64) -> [u8; 4]
+    ensures { λ r. ⌜ r ≡ lowBytes 4 v ⌝ }
+{
+    let v1 = v / 256;
+    let v2 = v1 / 256;
+    let v3 = v2 / 256;
+    [
+        (v % 256) as u8,
+        (v1 % 256) as u8,
+        (v2 % 256) as u8,
+        (v3 % 256) as u8,
+    ]
+}
+
+pub fn bytes4_u32(v: u32) -> [u8; 4]
     ensures { λ r. ⌜ r ≡ lowBytes 4 v ⌝ }
 {
     let v1 = v / 256;

@@ -5,8 +5,8 @@ ghost use Prim.Native.Nat.{_*_, _/_, _^_, _<_, _≤_, min, max};
 ghost use Rattle.offsets.specs.Shifting.{shiftBy, shiftHigh, alignedFrom, restoredTo};
 
 // For elements whose bytes stand at the high end of 64 bits: `flip` is added, modulo 2^64, so that signed values stand in
-// order; then the value is held between `low` and `high`; then `delta` is added, modulo 2^64. Elements of one and two bytes
-// are shifted as numbers of 8 and 16 bits, so that the compiler takes several at once.
+// order; then the value is held between `low` and `high`; then `delta` is added, modulo 2^64. Elements of one and two bytes,
+// and of four in runs, are shifted as numbers of 8, 16 and 32 bits, so that the compiler takes several at once.
 pub struct Shift {
     pub flip: u64,
     pub low: u64,
@@ -40,6 +40,19 @@ fn between_u16(v: u16, low: u16, high: u16) -> u16
     c
 }
 
+fn between_u32(v: u32, low: u32, high: u32) -> u32
+    ensures { λ r. ⌜ r ≡ min high (max low v) ⌝ }
+{
+    let mut c = v;
+    if c < low {
+        c = low;
+    }
+    if high < c {
+        c = high;
+    }
+    c
+}
+
 fn between_u64(v: u64, low: u64, high: u64) -> u64
     ensures { λ r. ⌜ r ≡ min high (max low v) ⌝ }
 {
@@ -53,7 +66,7 @@ fn between_u64(v: u64, low: u64, high: u64) -> u64
     c
 }
 
-// The highest byte, and the two highest.
+// The highest byte, the two highest and the four highest.
 fn top_u8(v: u64) -> u8
     ensures { λ r. ⌜ r ≡ v / 2 ^ 56 ⌝ }
 {
@@ -64,6 +77,12 @@ fn top_u16(v: u64) -> u16
     ensures { λ r. ⌜ r ≡ v / 2 ^ 48 ⌝ }
 {
     (v / 281474976710656) as u16
+}
+
+fn top_u32(v: u64) -> u32
+    ensures { λ r. ⌜ r ≡ v / 2 ^ 32 ⌝ }
+{
+    (v / 4294967296) as u32
 }
 
 pub fn shifted_u8(n: u8, s: Shift) -> u8
@@ -80,6 +99,14 @@ pub fn shifted_u16(n: u16, s: Shift) -> u16
     let b = std::num::wrapping_add_u16(n, top_u16(s.flip));
     let c = between_u16(b, top_u16(s.low), top_u16(s.high));
     std::num::wrapping_add_u16(c, top_u16(s.delta))
+}
+
+pub fn shifted_u32(n: u32, s: Shift) -> u32
+    ensures { λ r. ⌜ r ≡ shiftBy 4 s n ⌝ }
+{
+    let b = std::num::wrapping_add_u32(n, top_u32(s.flip));
+    let c = between_u32(b, top_u32(s.low), top_u32(s.high));
+    std::num::wrapping_add_u32(c, top_u32(s.delta))
 }
 
 // An element of the weight k at the high end.

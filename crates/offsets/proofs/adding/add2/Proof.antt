@@ -1,12 +1,5 @@
 -- `offsets::adding::add2` meets its contract.
-use mathlib.Core.Path.{ap, _∙_}
-use mathlib.Core.List.{List}
-use Prim.Native.Nat.{ℕ}
-use lib.Dec.{eqb}
-use Rattle.raster.specs.Bytes.{lowFirst, lowBytes}
-use Rattle.raster.specs.Strided.{turned}
-use Rattle.offsets.specs.Shifting.{shiftBy}
-use Rattle.offsets.proofs.Swaps.{turned-twice}
+use Rattle.offsets.proofs.Swaps.{turned-steps}
 use borrow.Author.Needs.{needs}
 use Rattle.offsets.proofs.adding.add2.Statement.{statement}
 use Rattle.offsets.proofs.adding.add2.Tie as tie
@@ -31,12 +24,8 @@ returns c =
     let shift = c .before .before in
     let low = shift .before in
     let a = low .before .before .args in
-    c .turn22 .ensures
-    ∙ ap (turned (eqb (a .asked) 1))
-    (c .before .bytes2 .ensures
-    ∙ ap (lowBytes 2)
-    (shift .shifted-u16 .ensures ∙ ap (shiftBy 2 (a .s)) (low .low2 .ensures .0 ∙ ap lowFirst (low .before .turn2 .ensures))))
-    ∙ turned-twice 2 (a .s) (a .order) (a .asked) (a .b)
+    turned-steps 2 (a .s) (a .order) (a .asked) (a .b) _ _ _ _ _ (low .before .turn2 .ensures) (low .low2 .ensures .0) (shift .shifted-u16 .ensures)
+    (c .before .bytes2 .ensures) (c .turn22 .ensures)
 
 pub add2-spec : {M : Type 1} → statement M
 add2-spec =

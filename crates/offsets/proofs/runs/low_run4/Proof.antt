@@ -1,0 +1,94 @@
+-- `offsets::runs::low_run4` meets its contract. The invariant: the first i elements are written.
+use mathlib.Core.Path.{_≡_, refl, ap, _∙_}
+use Prim.Native.Nat.{_+_, _-_, _*_, _≤_}
+use native.Mathlib.Omega.{arith}
+use borrow.Author.Needs.{needs}
+use lib.ListN.{length}
+use Rattle.scan.specs.Buffer.{over}
+use Rattle.raster.specs.Bytes.{joined}
+use Rattle.raster.specs.Strided.{rowOf}
+use Rattle.offsets.specs.Shifting.{shiftedBytes}
+use Rattle.offsets.proofs.RunLaws.{next-more, run-done}
+use Rattle.offsets.proofs.Swaps.{length-shifted}
+use Rattle.offsets.proofs.runs.low_run4.Statement.{statement}
+use Rattle.offsets.proofs.runs.low_run4.Tie as tie
+
+abbrev Inv-loop : tie.InvT-loop
+Inv-loop src at n s out₀ i₀ out i =
+    (i ≤ n) × (length out ≡ length out₀) × (out ≡ over (rowOf (shiftedBytes 4 s 2 2) 4 src at 4 0 i) out₀)
+
+abbrev μ-loop : tie.MeasureT-loop
+μ-loop src at n s out₀ i₀ out i = n - i
+
+loop-holds : tie.Need-loop-holds Inv-loop μ-loop
+unfolding rowOf joined
+loop-holds c = (search needs, refl, refl)
+
+mul-put4 : tie.Need-mul-put4 Inv-loop μ-loop
+mul-put4 c = omega arith
+
+mul-get4 : tie.Need-mul-get4 Inv-loop μ-loop
+mul-get4 c = omega arith
+
+add-get4 : tie.Need-add-get4 Inv-loop μ-loop
+add-get4 c = omega arith
+
+get4-requires : tie.Need-get4-requires Inv-loop μ-loop
+get4-requires c κs = omega arith
+
+low-add4-requires : tie.Need-low-add4-requires Inv-loop μ-loop
+low-add4-requires c κs = search needs
+
+put4-requires : tie.Need-put4-requires Inv-loop μ-loop
+put4-requires c κs = omega arith
+
+add-i : tie.Need-add-i Inv-loop μ-loop
+add-i c = omega arith
+
+loop-less : tie.Need-loop-less Inv-loop μ-loop
+loop-less c = omega arith
+
+loop-again : tie.Need-loop-again Inv-loop μ-loop
+loop-again c =
+    let w = c .before .before in
+    let g = w .before .before in
+    let l = g .before .before .before in
+    let s = l .before .before .before in
+    let a = s .args in
+    let i = l .loop .i in (
+      omega arith,
+      c .before .out .given ∙ l .loop .inv .1,
+      w .put4 .ensures
+          ∙ next-more (shiftedBytes 4 (a .s) 2 2) 4 (length-shifted (a .s) 2 2) (a .src .now) (a .at) (a .n) (omega arith) (omega arith) i (a .at + 4 * i)
+          (a .out .now) _ _ (omega arith) refl (l .loop .inv .2) (w .before .low-add4 .ensures ∙ ap (shiftedBytes 4 (a .s) 2 2) (g .get4 .ensures)),
+    )
+
+same-length : tie.Need-same-length Inv-loop μ-loop
+same-length c = omega arith
+
+returns : tie.Need-returns Inv-loop μ-loop
+returns c =
+    let l = c .before in
+    let s = l .before .before .before in
+    let a = s .args in
+    run-done (shiftedBytes 4 (a .s) 2 2) 4 (length-shifted (a .s) 2 2) (a .src .now) (a .at) (a .n) (omega arith) (omega arith) (l .loop .i) (a .out .now) _
+    (l .loop .inv .0) (c .loop-test .left) (s .pre .1) (l .loop .inv .2)
+
+pub low-run4-spec : {M : Type 1} → statement M
+low-run4-spec =
+    tie.close
+    (tie.spec
+    Inv-loop
+    μ-loop
+    loop-holds
+    mul-put4
+    mul-get4
+    add-get4
+    get4-requires
+    low-add4-requires
+    put4-requires
+    add-i
+    loop-less
+    loop-again
+    same-length
+    returns)
