@@ -1,4 +1,4 @@
-//! Arrays whose lengths stand around those that the library moves at once, 16 and 8,192 bytes: every type, both byte orders stored and
+//! Arrays whose lengths stand around those that the library moves at once, 16 and 8,192 bytes, 64 and 256 elements: every type, both byte orders stored and
 //! asked for, offsets that reach the ends of a type's range, and each array as one row, as rows that stand one after another, as
 //! rows the other way round, and as rows that run backwards. And planes that the library delivers tile by tile. By the second reader and
 //! by the library.
@@ -8,7 +8,8 @@ use edf_tests::parallel;
 use edf_tests::reader::element::{Form, Type, BYTE_ORDERS, TYPES};
 
 /// Lengths in bytes.
-const LENGTHS: [usize; 13] = [1, 15, 16, 17, 31, 8_176, 8_191, 8_192, 8_193, 8_207, 8_208, 16_384, 24_577];
+const LENGTHS: [usize; 20] =
+    [1, 15, 16, 17, 31, 126, 128, 130, 252, 256, 514, 1_020, 1_028, 8_176, 8_191, 8_192, 8_193, 8_208, 16_384, 24_577];
 
 /// Dims for a number of elements, with the raster configuration.
 fn shapes(elements: usize) -> Vec<(String, u32)> {
