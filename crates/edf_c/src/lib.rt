@@ -351,7 +351,7 @@ pub extern "C" fn edf_stored_array(
     match edf::stored_array(file, block, order) {
         Stored::Array(a) => {
             let d = a.description;
-            let p = a.span;
+            let place = a.span;
             put_description(
                 d,
                 datatype,
@@ -365,8 +365,8 @@ pub extern "C" fn edf_stored_array(
                 orientation,
                 offset,
             );
-            *start = p.offset;
-            *length = p.length;
+            *start = place.offset;
+            *length = place.length;
             *delivered = flag_of(a.delivered);
             0
         }
