@@ -25,7 +25,7 @@ void plain(const uint8_t *in, uint8_t *out, int width, int is_signed, int low_in
 static const struct {
     const char *word;
     int width, is_signed;
-} types[] = {{"UnsignedByte", 1, 0}, {"UnsignedShort", 2, 0}, {"UnsignedInteger", 4, 0}, {"Unsigned64", 8, 0}, {"SignedShort", 2, 1}, {"SignedInteger", 4, 1}};
+} types[] = {{"UnsignedByte", 1, 0}, {"UnsignedShort", 2, 0}, {"UnsignedInteger", 4, 0}, {"Unsigned64", 8, 0}, {"SignedShort", 2, 1}, {"SignedInteger", 4, 1}, {"SignedByte", 1, 1}, {"Signed64", 8, 1}};
 
 static size_t make_header(uint8_t *file, int type, int low_first, int n, const size_t dim[3], int configuration, long long offset, size_t size) {
     int k = sprintf((char *)file, "{\nByteOrder = %s ;\nDataType = %s ;\n", low_first ? "LowByteFirst" : "HighByteFirst", types[type].word);
@@ -63,6 +63,25 @@ static void steps_of(int n, int number, const size_t dim[3], ptrdiff_t *at, ptrd
 enum { TURNS = 9, LEAST_MS = 300 };
 static uint8_t *file, *out, *expected;
 
+// The highest ratio of the cases that share a limit, and how many are above it.
+static struct {
+    const char *what;
+    double limit, highest;
+    int cases, above;
+} groups[] = {{"configuration 1 as it stands, no offset: times memcpy", 1.2},
+              {"configuration 1 reversed, no offset: times memcpy", 2.5},
+              {"every other configuration, no offset: times plain C", 1.3},
+              {"every other configuration with an offset: times plain C", 1.3},
+              {"configuration 1 with an offset: times plain C", 1.3}};
+
+static void judge(int configuration, int reversed, int offset, double to_memcpy, double to_c) {
+    int group = configuration > 1 ? (offset ? 3 : 2) : offset ? 4 : reversed;
+    double ratio = group < 2 ? to_memcpy : to_c;
+    groups[group].cases++;
+    if (ratio > groups[group].limit) groups[group].above++;
+    if (ratio > groups[group].highest) groups[group].highest = ratio;
+}
+
 static void measure(int type, int low_first, int asked_low, int n, size_t d1, size_t d2, size_t d3, int configuration, long long offset) {
     size_t dim[3] = {d1, d2, d3}, size = d1 * d2 * d3 * types[type].width;
     size_t head = make_header(file, type, low_first, n, dim, configuration, offset, size);
@@ -88,6 +107,15 @@ static void measure(int type, int low_first, int asked_low, int n, size_t d1, si
     printf("| %-15s | %s | %s | %d | %2d | %6lld | %7.2f | %7.2f | %7.2f | %5.2f | %5.2f |\n", types[type].word, low_first ? "low " : "high",
            asked_low ? "low " : "high", n, configuration, offset, best[0], best[1], best[2], best[2] / best[0], best[2] / best[1]);
     fflush(stdout);
+    judge(configuration, types[type].width > 1 && low_first != asked_low, offset != 0, best[2] / best[0], best[2] / best[1]);
+}
+
+// Every integer type, both orders stored and asked for, without and with an offset, in every configuration of two dimensions.
+static void measure_all(size_t d1, size_t d2) {
+    for (int type = 0; type < 8; type++)
+        for (int orders = 0; orders < 4; orders++)
+            for (int offset = -10; offset <= 10; offset += 10)
+                for (int c = 1; c <= 8; c++) measure(type, orders / 2, orders % 2, 2, d1, d2, 1, c, offset);
 }
 
 // Writing the pixels of a frame of UnsignedShort, beside reading the same array from the file written.
@@ -111,19 +139,11 @@ static void measure_writing(uint8_t low_first, uint32_t configuration) {
     printf("| %s | %u | %.2f | %.2f | %.2f |\n", low_first ? "low byte first" : "high byte first", configuration, best[0], best[1], best[0] / best[1]);
 }
 
-int main(void) {
-    size_t most = 64u << 20;
-    file = malloc(most + 4096), out = malloc(most), expected = malloc(most);
-    for (size_t i = 0; i < most + 512; i++) file[i] = (uint8_t)(i * 2654435761u >> 13);
-    memset(out, 1, most), memset(expected, 1, most);
-    printf("| type | stored | asked | N | configuration | offset | memcpy ms | plain C ms | edf ms | edf / memcpy | edf / C |\n");
-    printf("|---|---|---|---|---|---|---|---|---|---|---|\n");
+static void measure_some(void) {
     for (int type = 0; type < 4; type++) {
         size_t side = 2048;
-        for (int reversed = 0; reversed < 2; reversed++) {
-            measure(type, reversed, 0, 2, side, side, 1, 1, 0);
-            for (int c = 2; c <= 8; c++) measure(type, reversed, 0, 2, side, side, 1, c, 0);
-        }
+        for (int reversed = 0; reversed < 2; reversed++)
+            for (int c = 1; c <= 8; c++) measure(type, reversed, 0, 2, side, side, 1, c, 0);
         for (int low = 0; low < 2; low++)
             for (int asked = 0; asked < 2; asked++) measure(type, low, asked, 2, side, side, 1, 1, low ? -10 : 10);
         measure(type, 1, 1, 2, side, side, 1, 2, 10);
@@ -135,6 +155,24 @@ int main(void) {
     }
     int cubes[] = {1, 17, 33, 48};
     for (int i = 0; i < 4; i++) measure(1, 0, 0, 3, 256, 256, 64, cubes[i], 0);
+}
+
+// With two numbers: all cases of an array of these dimensions. Without: some cases of 2,048 by 2,048, and writing.
+int main(int count, char **words) {
+    size_t most = 64u << 20;
+    file = malloc(most + 4096), out = malloc(most), expected = malloc(most);
+    for (size_t i = 0; i < most + 512; i++) file[i] = (uint8_t)(i * 2654435761u >> 13);
+    memset(out, 1, most), memset(expected, 1, most);
+    printf("| type | stored | asked | N | configuration | offset | memcpy ms | plain C ms | edf ms | edf / memcpy | edf / C |\n");
+    printf("|---|---|---|---|---|---|---|---|---|---|---|\n");
+    if (count == 3)
+        measure_all(strtoul(words[1], 0, 10), strtoul(words[2], 0, 10));
+    else
+        measure_some();
+    printf("\n| what | limit | highest | cases | above the limit |\n|---|---|---|---|---|\n");
+    for (int i = 0; i < 5; i++)
+        printf("| %s | %.1f | %.2f | %d | %d |\n", groups[i].what, groups[i].limit, groups[i].highest, groups[i].cases, groups[i].above);
+    if (count == 3) return 0;
     printf("\n| writing 2048 by 2048 UnsignedShort | configuration | write ms | read_array ms | write / read |\n|---|---|---|---|---|\n");
     for (size_t i = 0; i < most; i++) expected[i] = (uint8_t)(i * 2654435761u >> 11);
     for (int low = 0; low < 2; low++)

@@ -1,17 +1,21 @@
--- A plane whose rows stand one after another is a row.
-use mathlib.Core.Path.{_≡_, sym, ap, transport, _∙_}
+-- A plane whose rows stand one after another is a row, and so is a cube whose planes do.
+use mathlib.Core.Path.{_≡_, refl, sym, ap, transport, _∙_}
 use mathlib.Core.Bool.{true}
-use mathlib.Core.List.{List, _++_}
+use mathlib.Core.List.{List, [], _++_}
 use Prim.Native.Nat.{ℕ, zero, suc, _+_, _-_, _*_, _≤_, _<_}
-use native.Mathlib.Nat.{mul-assoc, mul-suc, suc-mul, mul-zero, zero-mul, mul-le-mul-left}
+use native.Mathlib.Nat.{mul-assoc, mul-suc, suc-mul, mul-zero, zero-mul, mul-one, mul-le-mul-left}
 use native.Mathlib.Omega.{arith}
 use borrow.Author.Tests.{eqb-true}
+use lib.ListN.{length}
+use Rattle.scan.specs.Buffer.{over}
 use Rattle.scan.proofs.Cases.{both-true}
 use Rattle.raster.specs.Bytes.{joined}
-use Rattle.raster.specs.Strided.{place, Inside, Inside2, rowOf, planeOf}
+use Rattle.raster.specs.Strided.{patched, place, Inside, Inside2, Inside3, rowOf, planeOf, cubeOf}
 use Rattle.raster.specs.declared.stride.Steps.{Steps}
+use Rattle.elements.proofs.Filling.{joined-same, over-part}
+use Rattle.elements.proofs.RowLaws.{length-row}
 use Rattle.elements.proofs.Groups.{row-add}
-use Rattle.delivery.specs.Flat.{flat}
+use Rattle.delivery.specs.Flat.{flat, flatCube}
 
 -- ---- The test
 
@@ -56,6 +60,40 @@ module _ (w n1 n2 at : ℕ) (t : Steps) (is : flat w n1 t ≡ true) where
       let e = flat-steps w n1 t is in
       sym ((λ j. planeOf f w s at (e .0 j) (e .1 .0 j) n1 (e .1 .1 .1 j) (e .1 .1 .0 j) n2) ∙ plane-row f w s at n1 n2)
 
+-- ---- The cube
+
+module _ (w n1 n2 n3 : ℕ) (t : Steps) (is : flatCube w n1 n2 t ≡ true) where
+  cube-steps : (t .down3 ≡ 0) × ((t .up3 ≡ w * (n1 * n2)) × (flat w n1 t ≡ true))
+  unfolding flatCube
+  cube-steps =
+      let p = both-true _ _ is in
+      let q = both-true _ _ (p .1) in
+      (eqb-true (t .down3) 0 (p .0), (eqb-true (t .up3) (w * n1 * n2) (q .0) ∙ mul-assoc w n1 n2, q .1))
+
+  -- Its planes are rows of a plane.
+  pub cube-inside : (len : ℕ) → Inside3 t n1 n2 n3 w len → Inside (t .at) w 0 (n1 * n2 * n3) w len
+  cube-inside len h =
+      let e = cube-steps in
+      row-inside w (t .at) (n1 * n2) n3 len
+      (transport (λ j. Inside2 (t .at) w 0 (n1 * n2) (e .1 .0 j) (e .0 j) n3 w len)
+      (λ i k. (h i k .0, flat-inside w n1 n2 (place (t .at) (t .up3) (t .down3) i) t (e .1 .1) len (h i k .1))))
+
+  pub cube-row : (f : List ℕ → List ℕ) (s : List ℕ) → rowOf f w s (t .at) w 0 (n1 * n2 * n3) ≡ cubeOf f w s t n1 n2 n3
+  unfolding planeOf cubeOf
+  cube-row f s =
+      let e = cube-steps in
+      sym
+      (joined-same n3 _ _ (λ i k. sym (flat-row w n1 n2 (place (t .at) (t .up3) (t .down3) i) t (e .1 .1) f s))
+      ∙ (λ j. planeOf f w s (t .at) w 0 (n1 * n2) (e .1 .0 j) (e .0 j) n3) ∙ plane-row f w s (t .at) (n1 * n2) n3)
+
+  -- Written as a row, at the front of d.
+  pub cube-written : (f : List ℕ → List ℕ) → ((l : List ℕ) → length l ≡ w → length (f l) ≡ w) → (s : List ℕ) → Inside3 t n1 n2 n3 w (length s) → (k : ℕ) (d q : List ℕ)
+      → k ≡ w * (n1 * n2 * n3) → q ≡ rowOf f w s (t .at) w 0 (n1 * n2 * n3) → patched 0 k d q ≡ over (cubeOf f w s t n1 n2 n3) d
+  cube-written f keeps s h k d q e g =
+      let n = n1 * n2 * n3 in
+      over-part [] q d d 0 k refl refl (ap length g ∙ length-row f w keeps s (t .at) w 0 n (cube-inside (length s) h) ∙ sym e)
+      ∙ ap (λ (l : List ℕ). over l d) (g ∙ cube-row f s)
+
 -- ---- Lengths
 
 pub fewer : (w a b len : ℕ) → 0 < w → len ≡ w * a * b → (a * b ≤ len) × (len ≡ w * (a * b))
@@ -64,3 +102,17 @@ fewer (suc v) a b len h e =
     let y : suc v * (a * b) ≡ v * (a * b) + a * b = suc-mul v (a * b) in
     (omega arith, e ∙ x)
 fewer zero a b len h e = absurd (omega arith)
+
+-- Of a cube that has room for all its elements, and at least one plane.
+module _ (w a b c len : ℕ) (wide : 0 < w) (some : 1 < c) (room : w * a * b * c ≤ len) where
+  pub cube-bytes : w * (a * b * c) ≡ w * a * b * c
+  cube-bytes = sym (mul-assoc w (a * b) c) ∙ ap (λ (x : ℕ). x * c) (sym (mul-assoc w a b))
+
+  pub cube-fits : (w * a * b ≤ len) × ((a * b ≤ len) × (a * b * c ≤ len))
+  cube-fits =
+      let h : 1 ≤ c = omega arith in
+      let x = mul-le-mul-left (w * a * b) h in
+      let y = mul-one (w * a * b) in
+      let z = fewer w a b (w * a * b) wide refl in
+      let v = fewer w (a * b) c (w * (a * b) * c) wide refl in
+      (omega arith, (omega (arith, z .0), omega (arith, v .0, v .1, cube-bytes)))

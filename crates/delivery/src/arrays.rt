@@ -14,7 +14,7 @@ ghost use Rattle.scan.specs.Buffer.{over};
 ghost use Rattle.raster.specs.Strided.{Inside2, Inside3, Width, planeOf, cubeOf, deliveredAt};
 ghost use Rattle.raster.specs.Types.{typeOf};
 ghost use Rattle.delivery.specs.Converting.{converted};
-ghost use Rattle.delivery.specs.Flat.{flat};
+ghost use Rattle.delivery.specs.Flat.{flat, flatCube};
 
 // Whether the rows of a plane stand one after another.
 fn is_flat(w: usize, n1: usize, t: Steps) -> bool
@@ -52,8 +52,22 @@ fn plane(src: &[u8], c: Conversion, at: usize, t: Steps, n1: usize, n2: usize, o
     rows(src, c, at, t, n1, n2, out);
 }
 
+// Whether the planes of a cube stand one after another too.
+fn is_flat_cube(w: usize, n1: usize, n2: usize, t: Steps) -> bool
+    requires { ⌜ (w * n1 < 2 ^ 64) × (w * n1 * n2 < 2 ^ 64) ⌝ }
+    ensures { λ r. ⌜ r ≡ flatCube w n1 n2 t ⌝ }
+{
+    if t.down3 != 0 {
+        return false;
+    }
+    if t.up3 != w * n1 * n2 {
+        return false;
+    }
+    is_flat(w, n1, t)
+}
+
 // n3 planes, one after the other, at the front of `out`.
-fn cube(src: &[u8], c: Conversion, t: Steps, n1: usize, n2: usize, n3: usize, out: &mut [u8])
+fn planes(src: &[u8], c: Conversion, t: Steps, n1: usize, n2: usize, n3: usize, out: &mut [u8])
     requires { ⌜ Width (c .width) ⌝ }
     requires { ⌜ Inside3 t n1 n2 n3 (c .width) (length (now src)) ⌝ }
     requires { ⌜ (c .width * n1 < 2 ^ 64) × (c .width * n1 * n2 * n3 ≤ length (now out)) ⌝ }
@@ -69,6 +83,25 @@ fn cube(src: &[u8], c: Conversion, t: Steps, n1: usize, n2: usize, n3: usize, ou
         o = e;
         i += 1;
     }
+}
+
+// A cube: as one row, where its planes stand one after another; else plane by plane.
+fn cube(src: &[u8], c: Conversion, t: Steps, n1: usize, n2: usize, n3: usize, out: &mut [u8])
+    requires { ⌜ Width (c .width) ⌝ }
+    requires { ⌜ Inside3 t n1 n2 n3 (c .width) (length (now src)) ⌝ }
+    requires { ⌜ (c .width * n1 < 2 ^ 64) × (c .width * n1 * n2 * n3 ≤ length (now out)) ⌝ }
+    ensures { λ _. ⌜ now (out .exit) ≡ over (cubeOf (converted c) (c .width) (now (src .entry)) t n1 n2 n3) (now (out .entry)) ⌝ }
+{
+    let w = c.width;
+    if 1 < n3 {
+        if is_flat_cube(w, n1, n2, t) {
+            let n = n1 * n2 * n3;
+            let e = w * n;
+            row(src, c, t.at, w, 0, n, &mut out[0..e]);
+            return;
+        }
+    }
+    planes(src, c, t, n1, n2, n3, out);
 }
 
 // The array of the elements at the steps `t`, of the type with the code `datatype`, stored in the order `byteorder`: in the

@@ -1,4 +1,4 @@
-pub mod RunLaws
+pub mod BlockLaws
 pub mod Scaling
 pub mod Sums
 pub mod Swaps

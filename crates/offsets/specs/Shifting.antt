@@ -40,9 +40,9 @@ restoredTo asked k r = cond (eqb asked 1) (swapped r) (r / k)
 unfoldable pub shiftedBytes : ℕ → Shift → ℕ → ℕ → List ℕ → List ℕ
 shiftedBytes w s order asked l = bytesOf asked w (shiftBy w s (numberOf order l))
 
--- The widths of the elements that are taken in runs.
+-- The widths of the elements that go by blocks.
 abbrev pub Short : ℕ → Type 0
-Short w = (w ≡ 2) ⊎ (w ≡ 4)
+Short w = (w ≡ 1) ⊎ ((w ≡ 2) ⊎ (w ≡ 4))
 
 -- The classes that an offset is added to.
 abbrev pub integer : Bool → Class

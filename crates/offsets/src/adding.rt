@@ -1,12 +1,12 @@
 // Rows of elements to which an offset is added.
+use crate::blocks::are_quicker;
+use crate::blocks::blocks;
 use crate::numbers::bytes2;
 use crate::numbers::bytes4;
 use crate::numbers::bytes8;
 use crate::numbers::low2;
 use crate::numbers::low4;
 use crate::numbers::low8;
-use crate::runs::is_run;
-use crate::runs::run;
 use crate::shift::Shift;
 use crate::shift::converted;
 use crate::shift::shifted_u8;
@@ -29,7 +29,7 @@ ghost use Rattle.raster.specs.Strided.{Inside, Width, rowOf, turned};
 ghost use Rattle.offsets.specs.Shifting.{shiftedBytes};
 
 // `order` and `asked` are for the contract alone.
-fn add1(b: [u8; 1], order: u8, asked: u8, s: Shift) -> [u8; 1]
+pub fn add1(b: [u8; 1], order: u8, asked: u8, s: Shift) -> [u8; 1]
     ensures { λ r. ⌜ r ≡ shiftedBytes 1 s order asked b ⌝ }
 {
     [shifted_u8(b[0], s)]
@@ -184,7 +184,7 @@ fn strided(
     added1(src, at, up, down, n, order, asked, s, out);
 }
 
-// A long run goes by blocks, and any other row element by element.
+// By blocks where that is quicker, else element by element.
 pub fn added(
     src: &[u8],
     w: usize,
@@ -202,8 +202,8 @@ pub fn added(
     requires { ⌜ length (now out) ≡ w * n ⌝ }
     ensures { λ _. ⌜ now (out .exit) ≡ rowOf (shiftedBytes w s order asked) w (now (src .entry)) at up down n ⌝ }
 {
-    if is_run(w, up, down, n) {
-        run(src, w, at, n, order, asked, s, out);
+    if are_quicker(w, n, order, asked) {
+        blocks(src, w, at, up, down, n, order, asked, s, out);
         return;
     }
     strided(src, w, at, up, down, n, order, asked, s, out);

@@ -1,39 +1,22 @@
 -- `offsets::adding::added` meets its contract: either way writes the row.
-use mathlib.Core.Path.{sym, _∙_}
 use borrow.Author.Needs.{needs}
-use lib.ListN.{length}
-use Rattle.raster.specs.Strided.{rowOf}
-use Rattle.elements.proofs.RowLaws.{runs-inside}
-use Rattle.offsets.specs.Shifting.{shiftedBytes}
 use Rattle.offsets.proofs.adding.added.Statement.{statement}
 use Rattle.offsets.proofs.adding.added.Tie as tie
 
-is-run-requires : tie.Need-is-run-requires
-is-run-requires c κs = search needs
+are-quicker-requires : tie.Need-are-quicker-requires
+are-quicker-requires c κs = search needs
 
-run-requires : tie.Need-run-requires
-run-requires c κs =
+blocks-requires : tie.Need-blocks-requires
+blocks-requires c κs =
     let t = c .before in
     let s = t .before .before .before .before in
-    let a = s .args in
-    let r = t .before .is-run .ensures (t .if1 .taken) in (
-      r .0,
-      (
-        runs-inside (a .w) (a .up) (a .down) (a .at) (a .n) (length (a .src .now)) (length (a .out .now)) (r .1) (r .2) (s .pre .1 .1) (s .pre .1 .0),
-        s .pre .1 .1,
-      ),
-    )
+    (t .before .are-quicker .ensures (t .if1 .taken), s .pre .1)
 
 same-length : tie.Need-same-length
 same-length c = search needs
 
 returns : tie.Need-returns
-returns c =
-    let b = c .before .before in
-    let t = b .before .before in
-    let a = t .before .before .before .before .args in
-    let r = t .before .is-run .ensures (t .if1 .taken) in
-    b .run .ensures ∙ (λ j. rowOf (shiftedBytes (a .w) (a .s) (a .order) (a .asked)) (a .w) (a .src .now) (a .at) (sym (r .1) j) (sym (r .2) j) (a .n))
+returns c = search needs
 
 strided-requires : tie.Need-strided-requires
 strided-requires c κs = search needs
@@ -48,8 +31,8 @@ pub added-spec : {M : Type 1} → statement M
 added-spec =
     tie.close
     (tie.spec
-    is-run-requires
-    run-requires
+    are-quicker-requires
+    blocks-requires
     same-length
     returns
     strided-requires

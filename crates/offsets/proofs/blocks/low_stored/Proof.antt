@@ -1,5 +1,5 @@
--- `offsets::runs::low_block` meets its contract: the array has the elements with the low byte first.
-use mathlib.Core.Path.{_≡_, ap, _∙_}
+-- `offsets::blocks::low_stored` meets its contract: the array has the elements with the low byte first.
+use mathlib.Core.Path.{_≡_, _∙_}
 use mathlib.Core.Bool.{true, false}
 use Prim.Native.Nat.{ℕ, _-_}
 use native.Mathlib.Omega.{arith}
@@ -9,13 +9,13 @@ use borrow.Rule.Slice.PartMut.{putMid, same-len-mid}
 use lib.ListN.{length, replicate, length-replicate}
 use Rattle.raster.specs.Strided.{turned}
 use Rattle.offsets.specs.Shifting.{shiftedBytes}
-use Rattle.offsets.proofs.RunLaws.{short-width, short-some, front-length, inside-run, by-way, turned-after}
+use Rattle.offsets.proofs.BlockLaws.{short-width, short-some, front-length, inside-run, by-way, turned-after}
 use Rattle.offsets.proofs.Swaps.{length-shifted}
-use Rattle.offsets.proofs.runs.low_block.Statement.{statement}
-use Rattle.offsets.proofs.runs.low_block.Tie as tie
+use Rattle.offsets.proofs.blocks.low_stored.Statement.{statement}
+use Rattle.offsets.proofs.blocks.low_stored.Tie as tie
 
-sub-low-run : tie.Need-sub-low-run
-sub-low-run c = search needs
+sub-low-row : tie.Need-sub-low-row
+sub-low-row c = search needs
 
 part-made-start : tie.Need-part-made-start
 part-made-start c = search needs
@@ -23,8 +23,8 @@ part-made-start c = search needs
 part-made-end : tie.Need-part-made-end
 part-made-end c = omega (arith, length-replicate {A = ℕ} 1024 0)
 
-low-run-requires : tie.Need-low-run-requires
-low-run-requires c κs =
+low-row-requires : tie.Need-low-row-requires
+low-row-requires c κs =
     let s = c .before .before .before .before in
     let e = length (s .args .out .now) in
     let m = front-length 1024 e (replicate {A = ℕ} 1024 0) (length-replicate {A = ℕ} 1024 0) (s .pre .0 .1) in
@@ -39,10 +39,10 @@ part-reversed-start c = search needs
 -- The array keeps its length.
 whole : (c : tie.After-made2)
     → let a = c .before .before .before .before .before .before .args in
-    length (putMid 0 (length (a .out .now) - 0) (replicate {A = ℕ} 1024 0) (c .before .low-run .last .1 .1 .1 .1 .1 .0)) ≡ 1024
+    length (putMid 0 (length (a .out .now) - 0) (replicate {A = ℕ} 1024 0) (c .before .low-row .last .1 .1 .1 .1 .0)) ≡ 1024
 whole c =
     let a = c .before .before .before .before .before .before .args in
-    same-len-mid 0 (length (a .out .now) - 0) (replicate {A = ℕ} 1024 0) (c .before .low-run .last .1 .1 .1 .1 .1 .0) (c .made2 .given)
+    same-len-mid 0 (length (a .out .now) - 0) (replicate {A = ℕ} 1024 0) (c .before .low-row .last .1 .1 .1 .1 .0) (c .made2 .given)
     ∙ length-replicate {A = ℕ} 1024 0
 
 part-reversed-end : tie.Need-part-reversed-end
@@ -53,9 +53,9 @@ reversed-requires c κs =
     let b = c .before .before .before in
     let s = b .before .before .before .before .before .before in
     let a = s .args in
-    let m = front-length 1024 (length (a .out .now)) (putMid 0 (length (a .out .now) - 0) (replicate {A = ℕ} 1024 0) (b .before .low-run .last .1 .1 .1 .1 .1 .0)) (whole b) (s .pre .0 .1) in (
+    let m = front-length 1024 (length (a .out .now)) (putMid 0 (length (a .out .now) - 0) (replicate {A = ℕ} 1024 0) (b .before .low-row .last .1 .1 .1 .1 .0)) (whole b) (s .pre .0 .1) in (
       short-width (s .pre .0 .0),
-      (inside-run (a .w) 0 (a .n) _ (short-some (s .pre .0 .0)) (omega (arith, m, s .pre .1 .1)), s .pre .1 .1),
+      (inside-run (a .w) (a .n) _ (short-some (s .pre .0 .0)) (omega (arith, m, s .pre .1 .1)), s .pre .1 .1),
     )
 
 same-length : tie.Need-same-length
@@ -68,13 +68,13 @@ returns c =
     let t = b .before .before in
     let s = t .before .before .before in
     let a = s .args in
-    let e = length (a .out .now) in
-    turned-after (a .w) (a .s) 2 (a .asked) true (a .src .now) (a .at) (a .n) _ (eq-eqb (a .asked) 1 (t .if1 .taken))
-    (by-way (turned true) (shiftedBytes (a .w) (a .s) 2 2) (a .w) (length-shifted (a .s) 2 2) (a .src .now) (a .at) (a .n) (short-some (s .pre .0 .0))
-    (omega (arith, s .pre .1 .0, s .pre .1 .1)) e _ _ _ (s .pre .1 .1) (b .low-run .ensures) (d .reversed .ensures))
+    let inside = inside-run (a .w) (a .n) (length (a .src .now)) (short-some (s .pre .0 .0)) (omega (arith, s .pre .1 .0, s .pre .1 .1)) in
+    by-way (turned true) (shiftedBytes (a .w) (a .s) 2 2) (a .w) (length-shifted (a .s) 2 2) (a .src .now) 0 (a .w) 0 (a .n) inside
+    (length (a .out .now)) _ _ _ (s .pre .1 .1) (b .low-row .ensures) (d .reversed .ensures)
+    ∙ turned-after (a .w) (a .s) 2 (a .asked) true (a .src .now) 0 (a .w) 0 (a .n) (eq-eqb (a .asked) 1 (t .if1 .taken))
 
-low-run-requires-2 : tie.Need-low-run-requires-2
-low-run-requires-2 c κs = let s = c .before .before .before .before in (s .pre .0 .0, s .pre .1)
+low-row-requires-2 : tie.Need-low-row-requires-2
+low-row-requires-2 c κs = let s = c .before .before .before .before in (s .pre .0 .0, s .pre .1)
 
 same-length-2 : tie.Need-same-length-2
 same-length-2 c = search needs
@@ -84,22 +84,22 @@ returns-2 c =
     let r = c .before .before in
     let t = r .before .before in
     let a = t .before .before .before .args in
-    turned-after (a .w) (a .s) 2 (a .asked) false (a .src .now) (a .at) (a .n) _ (ne-eqb (a .asked) 1 (t .if1 .left)) (r .low-run2 .ensures)
+    r .low-row2 .ensures ∙ turned-after (a .w) (a .s) 2 (a .asked) false (a .src .now) 0 (a .w) 0 (a .n) (ne-eqb (a .asked) 1 (t .if1 .left))
 
-pub low-block-spec : {M : Type 1} → statement M
-low-block-spec =
+pub low-stored-spec : {M : Type 1} → statement M
+low-stored-spec =
     tie.close
     (tie.spec
-    sub-low-run
+    sub-low-row
     part-made-start
     part-made-end
-    low-run-requires
+    low-row-requires
     sub-reversed
     part-reversed-start
     part-reversed-end
     reversed-requires
     same-length
     returns
-    low-run-requires-2
+    low-row-requires-2
     same-length-2
     returns-2)

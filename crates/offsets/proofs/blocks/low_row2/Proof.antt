@@ -1,6 +1,7 @@
--- `offsets::runs::low_run2` meets its contract. The invariant: the first i elements are written.
+-- `offsets::blocks::low_row2` meets its contract. The invariant: the first i elements are written.
 use mathlib.Core.Path.{_≡_, refl, ap, _∙_}
-use Prim.Native.Nat.{_+_, _-_, _*_, _≤_}
+use Prim.Native.Nat.{_-_, _*_, _≤_}
+use native.Mathlib.Nat.{zero-mul}
 use native.Mathlib.Omega.{arith}
 use borrow.Author.Needs.{needs}
 use lib.ListN.{length}
@@ -8,17 +9,18 @@ use Rattle.scan.specs.Buffer.{over}
 use Rattle.raster.specs.Bytes.{joined}
 use Rattle.raster.specs.Strided.{rowOf}
 use Rattle.offsets.specs.Shifting.{shiftedBytes}
-use Rattle.offsets.proofs.RunLaws.{next-more, run-done}
+use Rattle.elements.proofs.RowLaws.{row-more, row-done}
+use Rattle.offsets.proofs.BlockLaws.{inside-run}
 use Rattle.offsets.proofs.Swaps.{length-shifted}
-use Rattle.offsets.proofs.runs.low_run2.Statement.{statement}
-use Rattle.offsets.proofs.runs.low_run2.Tie as tie
+use Rattle.offsets.proofs.blocks.low_row2.Statement.{statement}
+use Rattle.offsets.proofs.blocks.low_row2.Tie as tie
 
 abbrev Inv-loop : tie.InvT-loop
-Inv-loop src at n s out₀ i₀ out i =
-    (i ≤ n) × (length out ≡ length out₀) × (out ≡ over (rowOf (shiftedBytes 2 s 2 2) 2 src at 2 0 i) out₀)
+Inv-loop src n s out₀ i₀ out i =
+    (i ≤ n) × (length out ≡ length out₀) × (out ≡ over (rowOf (shiftedBytes 2 s 2 2) 2 src 0 2 0 i) out₀)
 
 abbrev μ-loop : tie.MeasureT-loop
-μ-loop src at n s out₀ i₀ out i = n - i
+μ-loop src n s out₀ i₀ out i = n - i
 
 loop-holds : tie.Need-loop-holds Inv-loop μ-loop
 unfolding rowOf joined
@@ -29,9 +31,6 @@ mul-put2 c = omega arith
 
 mul-get2 : tie.Need-mul-get2 Inv-loop μ-loop
 mul-get2 c = omega arith
-
-add-get2 : tie.Need-add-get2 Inv-loop μ-loop
-add-get2 c = omega arith
 
 get2-requires : tie.Need-get2-requires Inv-loop μ-loop
 get2-requires c κs = omega arith
@@ -59,8 +58,8 @@ loop-again c =
       omega arith,
       c .before .out .given ∙ l .loop .inv .1,
       w .put2 .ensures
-          ∙ next-more (shiftedBytes 2 (a .s) 2 2) 2 (length-shifted (a .s) 2 2) (a .src .now) (a .at) (a .n) (omega arith) (omega arith) i (a .at + 2 * i)
-          (a .out .now) _ _ (omega arith) refl (l .loop .inv .2) (w .before .add2 .ensures ∙ ap (shiftedBytes 2 (a .s) 2 2) (g .get2 .ensures)),
+          ∙ row-more (shiftedBytes 2 (a .s) 2 2) 2 (length-shifted (a .s) 2 2) (a .src .now) 0 2 0 (a .n) (inside-run 2 (a .n) _ (omega arith) (omega arith)) i (2 * i)
+          (a .out .now) _ _ (omega arith) (omega (arith, zero-mul i)) (l .loop .inv .2) (w .before .add2 .ensures ∙ ap (shiftedBytes 2 (a .s) 2 2) (g .get2 .ensures)),
     )
 
 same-length : tie.Need-same-length Inv-loop μ-loop
@@ -71,11 +70,12 @@ returns c =
     let l = c .before in
     let s = l .before .before .before in
     let a = s .args in
-    run-done (shiftedBytes 2 (a .s) 2 2) 2 (length-shifted (a .s) 2 2) (a .src .now) (a .at) (a .n) (omega arith) (omega arith) (l .loop .i) (a .out .now) _
+    row-done (shiftedBytes 2 (a .s) 2 2) 2 (length-shifted (a .s) 2 2) (a .src .now) 0 2 0 (a .n) (inside-run 2 (a .n) _ (omega arith) (omega arith)) (l .loop .i)
+    (a .out .now) _
     (l .loop .inv .0) (c .loop-test .left) (s .pre .1) (l .loop .inv .2)
 
-pub low-run2-spec : {M : Type 1} → statement M
-low-run2-spec =
+pub low-row2-spec : {M : Type 1} → statement M
+low-row2-spec =
     tie.close
     (tie.spec
     Inv-loop
@@ -83,7 +83,6 @@ low-run2-spec =
     loop-holds
     mul-put2
     mul-get2
-    add-get2
     get2-requires
     add2-requires
     put2-requires

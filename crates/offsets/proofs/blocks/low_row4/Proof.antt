@@ -1,6 +1,7 @@
--- `offsets::runs::low_run4` meets its contract. The invariant: the first i elements are written.
+-- `offsets::blocks::low_row4` meets its contract. The invariant: the first i elements are written.
 use mathlib.Core.Path.{_≡_, refl, ap, _∙_}
-use Prim.Native.Nat.{_+_, _-_, _*_, _≤_}
+use Prim.Native.Nat.{_-_, _*_, _≤_}
+use native.Mathlib.Nat.{zero-mul}
 use native.Mathlib.Omega.{arith}
 use borrow.Author.Needs.{needs}
 use lib.ListN.{length}
@@ -8,17 +9,18 @@ use Rattle.scan.specs.Buffer.{over}
 use Rattle.raster.specs.Bytes.{joined}
 use Rattle.raster.specs.Strided.{rowOf}
 use Rattle.offsets.specs.Shifting.{shiftedBytes}
-use Rattle.offsets.proofs.RunLaws.{next-more, run-done}
+use Rattle.elements.proofs.RowLaws.{row-more, row-done}
+use Rattle.offsets.proofs.BlockLaws.{inside-run}
 use Rattle.offsets.proofs.Swaps.{length-shifted}
-use Rattle.offsets.proofs.runs.low_run4.Statement.{statement}
-use Rattle.offsets.proofs.runs.low_run4.Tie as tie
+use Rattle.offsets.proofs.blocks.low_row4.Statement.{statement}
+use Rattle.offsets.proofs.blocks.low_row4.Tie as tie
 
 abbrev Inv-loop : tie.InvT-loop
-Inv-loop src at n s out₀ i₀ out i =
-    (i ≤ n) × (length out ≡ length out₀) × (out ≡ over (rowOf (shiftedBytes 4 s 2 2) 4 src at 4 0 i) out₀)
+Inv-loop src n s out₀ i₀ out i =
+    (i ≤ n) × (length out ≡ length out₀) × (out ≡ over (rowOf (shiftedBytes 4 s 2 2) 4 src 0 4 0 i) out₀)
 
 abbrev μ-loop : tie.MeasureT-loop
-μ-loop src at n s out₀ i₀ out i = n - i
+μ-loop src n s out₀ i₀ out i = n - i
 
 loop-holds : tie.Need-loop-holds Inv-loop μ-loop
 unfolding rowOf joined
@@ -29,9 +31,6 @@ mul-put4 c = omega arith
 
 mul-get4 : tie.Need-mul-get4 Inv-loop μ-loop
 mul-get4 c = omega arith
-
-add-get4 : tie.Need-add-get4 Inv-loop μ-loop
-add-get4 c = omega arith
 
 get4-requires : tie.Need-get4-requires Inv-loop μ-loop
 get4-requires c κs = omega arith
@@ -59,8 +58,8 @@ loop-again c =
       omega arith,
       c .before .out .given ∙ l .loop .inv .1,
       w .put4 .ensures
-          ∙ next-more (shiftedBytes 4 (a .s) 2 2) 4 (length-shifted (a .s) 2 2) (a .src .now) (a .at) (a .n) (omega arith) (omega arith) i (a .at + 4 * i)
-          (a .out .now) _ _ (omega arith) refl (l .loop .inv .2) (w .before .low-add4 .ensures ∙ ap (shiftedBytes 4 (a .s) 2 2) (g .get4 .ensures)),
+          ∙ row-more (shiftedBytes 4 (a .s) 2 2) 4 (length-shifted (a .s) 2 2) (a .src .now) 0 4 0 (a .n) (inside-run 4 (a .n) _ (omega arith) (omega arith)) i (4 * i)
+          (a .out .now) _ _ (omega arith) (omega (arith, zero-mul i)) (l .loop .inv .2) (w .before .low-add4 .ensures ∙ ap (shiftedBytes 4 (a .s) 2 2) (g .get4 .ensures)),
     )
 
 same-length : tie.Need-same-length Inv-loop μ-loop
@@ -71,11 +70,12 @@ returns c =
     let l = c .before in
     let s = l .before .before .before in
     let a = s .args in
-    run-done (shiftedBytes 4 (a .s) 2 2) 4 (length-shifted (a .s) 2 2) (a .src .now) (a .at) (a .n) (omega arith) (omega arith) (l .loop .i) (a .out .now) _
+    row-done (shiftedBytes 4 (a .s) 2 2) 4 (length-shifted (a .s) 2 2) (a .src .now) 0 4 0 (a .n) (inside-run 4 (a .n) _ (omega arith) (omega arith)) (l .loop .i)
+    (a .out .now) _
     (l .loop .inv .0) (c .loop-test .left) (s .pre .1) (l .loop .inv .2)
 
-pub low-run4-spec : {M : Type 1} → statement M
-low-run4-spec =
+pub low-row4-spec : {M : Type 1} → statement M
+low-row4-spec =
     tie.close
     (tie.spec
     Inv-loop
@@ -83,7 +83,6 @@ low-run4-spec =
     loop-holds
     mul-put4
     mul-get4
-    add-get4
     get4-requires
     low-add4-requires
     put4-requires

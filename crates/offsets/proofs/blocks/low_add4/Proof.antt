@@ -1,9 +1,9 @@
--- `offsets::runs::low_add4` meets its contract.
+-- `offsets::blocks::low_add4` meets its contract.
 use mathlib.Core.Path.{refl}
 use Rattle.offsets.proofs.Swaps.{turned-steps}
 use borrow.Author.Needs.{needs}
-use Rattle.offsets.proofs.runs.low_add4.Statement.{statement}
-use Rattle.offsets.proofs.runs.low_add4.Tie as tie
+use Rattle.offsets.proofs.blocks.low_add4.Statement.{statement}
+use Rattle.offsets.proofs.blocks.low_add4.Tie as tie
 
 low4-u32-requires : tie.Need-low4-u32-requires
 low4-u32-requires c κs = search needs
