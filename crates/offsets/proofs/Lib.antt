@@ -1,3 +1,4 @@
+pub mod Inverting
 pub mod RunLaws
 pub mod Scaling
 pub mod Sums
