@@ -1,18 +1,18 @@
 -- The shift that adds an offset, from the numbers that the code has.
-use mathlib.Core.Path.{_≡_, refl, sym, ap, _∙_}
+use mathlib.Core.Path.{_≡_, sym, ap, _∙_}
 use mathlib.Core.Logic.{inl, inr}
 use mathlib.Core.Bool.{Bool, true, false, cond}
-use Prim.Native.Nat.{ℕ, _+_, _-_, _*_, _/_, _%_, _^_, _≤_, _<_, min}
-use native.Mathlib.Nat.{add-mul, mul-assoc, mul-le-mul-right, div-mul-le-self, div-eq-of-lt-le, one-le-pow, zero-mul, mul-lt-mul-of-pos-right, pow-le-pow-right}
-use native.Mathlib.Numerals.{add-one}
+use Prim.Native.Nat.{ℕ, _+_, _-_, _*_, _/_, _^_, _≤_, _<_, min}
+use native.Mathlib.Nat.{mul-assoc, mul-le-mul-right, div-mul-le-self, div-eq-of-lt-le, mul-div-cancel, one-le-pow, zero-mul}
 use native.Mathlib.Omega.{arith}
-use lib.IntN.{pos, negsuc}
+use lib.IntN.{ℤ, pos, natAbs}
+use lib.Signed.{ltZ}
 use Rattle.raster.specs.Element.{half}
 use Rattle.raster.specs.Strided.{Width}
 use Rattle.raster.proofs.RoundTrip.{two-halves}
 use Rattle.offsets.specs.Shifting.{weight, integer, Shifts}
 use Rattle.offsets.proofs.Sums.{flipOf}
-use Rattle.offsets.proofs.Scaling.{whole, sub-times, adds-up, adds-down}
+use Rattle.offsets.proofs.Scaling.{whole, sub-times, adds}
 
 pub width-some : {w : ℕ} → Width w → (0 < w) × (w ≤ 8)
 width-some (inl e) = (omega arith, omega arith)
@@ -28,54 +28,44 @@ module _ (w : ℕ) (some : 0 < w) (few : w ≤ 8) where
   pub some-weight : 0 < weight w
   some-weight = one-le-pow (8 - w) 256 (omega arith)
 
+  -- The w highest bytes of 64 ones, less a number there.
+  ones-less : (f : ℕ) → f < 256 ^ w → (18446744073709551615 - f * weight w) / weight w ≡ 256 ^ w - 1 - f
+  ones-less f h =
+      let t = whole false w some few in
+      let q = some-weight in
+      let g = 256 ^ w - 1 - f in
+      let e : 256 ^ w ≡ g + 1 + f = omega arith in
+      let s : (g + 1 + f) * weight w ≡ 2 ^ 64 = ap (λ (x : ℕ). x * weight w) (sym e) ∙ t in
+      div-eq-of-lt-le {k = g} (weight w) {m = 18446744073709551615 - f * weight w} (omega arith) (omega arith)
+
   most-is : (k : ℕ) → k ≡ weight w → 18446744073709551615 / k ≡ 256 ^ w - 1
   most-is k e =
-      let t = whole false w some few in
       let p : 0 < 256 ^ w = one-le-pow w 256 (omega arith) in
-      let q = some-weight in
-      let a : (256 ^ w - 1 + 1) * weight w ≡ (256 ^ w - 1) * weight w + weight w = omega (arith, add-mul (256 ^ w - 1) 1 (weight w)) in
-      let b : 256 ^ w - 1 + 1 ≡ 256 ^ w = omega arith in
-      let c : (256 ^ w - 1) * weight w + weight w ≡ 2 ^ 64 = sym a ∙ ap (λ (x : ℕ). x * weight w) b ∙ t in
-      ap (λ (x : ℕ). 18446744073709551615 / x) e
-      ∙ div-eq-of-lt-le {k = 256 ^ w - 1} (weight w) {m = 18446744073709551615} (omega arith) (omega arith)
+      let z : 18446744073709551615 ≡ 18446744073709551615 - 0 * weight w = omega arith in
+      (λ j. z j / e j) ∙ ones-less 0 p ∙ omega arith
 
-  pub most-some : (k : ℕ) → k ≡ weight w → 0 < 18446744073709551615 / k
-  most-some k e =
-      let p = pow-le-pow-right {n = 256} (omega arith) {i = 1} {j = w} some in
-      omega (arith, most-is k e)
-
-  flip-is : (s : Bool) (flip : ℕ) → flip ≡ cond s (2 ^ 63) 0 → flip ≡ flipOf s w * weight w
-  flip-is true flip e =
+  sign-is : (s : Bool) → cond s (2 ^ 63) 0 ≡ flipOf s w * weight w
+  sign-is true =
       let h = two-halves w some in
       let t = whole false w some few in
       let a : 2 * (half w * weight w) ≡ 256 ^ w * weight w = sym (mul-assoc 2 (half w) (weight w)) ∙ ap (λ (x : ℕ). x * weight w) h in
-      e ∙ omega arith
-  flip-is false flip e = e ∙ sym (zero-mul (weight w))
+      omega arith
+  sign-is false = sym (zero-mul (weight w))
 
-  pub up-right : (s : Bool) (n k m c flip delta : ℕ) → k ≡ weight w → m ≡ 18446744073709551615 / k → c ≡ min n m
-      → flip ≡ cond s (2 ^ 63) 0 → delta ≡ (c * k + flip) % 2 ^ 64
-      → Shifts (integer s) w (pos n) (record { flip = flip; low = 0; high = m * k - c * k; delta = delta })
-  up-right s n k m c flip delta ek em ec ef ed =
+  sign-below : (s : Bool) → flipOf s w < 256 ^ w
+  sign-below true = omega (arith, two-halves w some, one-le-pow w 256 (omega arith))
+  sign-below false = one-le-pow w 256 (omega arith)
+
+  inverted-is : (s down : Bool) (i : ℕ) → i ≡ cond down (18446744073709551615 - cond s (2 ^ 63) 0) (cond s (2 ^ 63) 0)
+      → i / weight w ≡ cond down (256 ^ w - 1 - flipOf s w) (flipOf s w)
+  inverted-is s true i e =
+      ap (λ (x : ℕ). x / weight w) (e ∙ ap (λ (x : ℕ). 18446744073709551615 - x) (sign-is s)) ∙ ones-less (flipOf s w) (sign-below s)
+  inverted-is s false i e = ap (λ (x : ℕ). x / weight w) (e ∙ sign-is s) ∙ mul-div-cancel (flipOf s w) some-weight
+
+  pub shifts-by : (s : Bool) (offset : ℤ) (k m c i : ℕ) → k ≡ weight w → m ≡ 18446744073709551615 / k → c ≡ min (natAbs offset) m
+      → i ≡ cond (ltZ offset (pos 0)) (18446744073709551615 - cond s (2 ^ 63) 0) (cond s (2 ^ 63) 0)
+      → Shifts (integer s) w offset (record { inverted = i; high = m * k - c * k; delta = c * k })
+  shifts-by s offset k m c i ek em ec ei =
       let m′ : m ≡ 256 ^ w - 1 = em ∙ most-is k ek in
-      let f = flip-is s flip ef in
-      adds-up s w some few n c _ (ec ∙ ap (min n) m′) f (sym (zero-mul (weight w)))
-      ((λ j. m′ j * ek j - c * ek j) ∙ sub-times (256 ^ w - 1) c (weight w))
-      (ed ∙ (λ j. (c * ek j + f j) % 2 ^ 64) ∙ ap (λ (x : ℕ). x % 2 ^ 64) (sym (add-mul c (flipOf s w) (weight w))))
-
-  pub down-right : (s : Bool) (n k m c flip delta : ℕ) → k ≡ weight w → m ≡ 18446744073709551615 / k → c ≡ min (n + 1) m
-      → flip ≡ cond s (2 ^ 63) 0 → delta ≡ (18446744073709551615 - c * k + 1 + flip) % 2 ^ 64
-      → Shifts (integer s) w (negsuc n) (record { flip = flip; low = c * k; high = m * k; delta = delta })
-  down-right s n k m c flip delta ek em ec ef ed =
-      let m′ : m ≡ 256 ^ w - 1 = em ∙ most-is k ek in
-      let f = flip-is s flip ef in
-      let t = whole false w some few in
-      let l = times-under c (weight w) 18446744073709551615 (omega (arith, most-is (weight w) refl)) in
-      let z : 18446744073709551615 - c * weight w + 1 ≡ 256 ^ w * weight w - c * weight w = omega arith in
-      adds-down s w some few n c _ (ec ∙ (λ j. min (add-one n j) (m′ j))) f (ap (λ (x : ℕ). c * x) ek) (λ j. m′ j * ek j)
-      (ed ∙ (λ j. (18446744073709551615 - c * ek j + 1 + f j) % 2 ^ 64)
-      ∙ ap (λ (x : ℕ). (x + flipOf s w * weight w) % 2 ^ 64) (z ∙ sub-times (256 ^ w) c (weight w))
-      ∙ ap (λ (x : ℕ). x % 2 ^ 64) (sym (add-mul (256 ^ w - c) (flipOf s w) (weight w))))
-
--- What is taken away is at least 1.
-pub product-some : (x k : ℕ) → 0 < x → 0 < k → 0 < x * k
-product-some x k a b = omega (arith, zero-mul k, mul-lt-mul-of-pos-right {m = 0} {n = x} a b)
+      adds s w some few offset c _ (ec ∙ ap (min (natAbs offset)) m′) (inverted-is s (ltZ offset (pos 0)) i ei)
+      ((λ j. m′ j * ek j - c * ek j) ∙ sub-times (256 ^ w - 1) c (weight w)) (ap (λ (x : ℕ). c * x) ek)

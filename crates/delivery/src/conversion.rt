@@ -2,8 +2,8 @@
 use offsets::shift::Shift;
 ghost use mathlib.Core.Path.{_≡_};
 ghost use mathlib.Core.Bool.{cond};
-ghost use Prim.Native.Nat.{_<_, _^_, min};
-ghost use lib.IntN.{pos, negsuc};
+ghost use Prim.Native.Nat.{_-_, _^_, min};
+ghost use lib.IntN.{natAbs};
 ghost use Rattle.raster.specs.Strided.{Width};
 ghost use Rattle.raster.specs.Types.{typeOf};
 ghost use Rattle.offsets.specs.Shifting.{weight, integer, Shifts};
@@ -56,53 +56,35 @@ fn weight_of(w: usize) -> u64
     0x100_0000_0000_0000
 }
 
-// Half of 64 bits, for signed values.
-fn flip_of(signed: bool) -> u64
-    ensures { λ r. ⌜ r ≡ cond signed (2 ^ 63) 0 ⌝ }
-{
-    if signed { 0x8000_0000_0000_0000 } else { 0 }
-}
-
 fn least(n: u64, m: u64) -> u64
     ensures { λ r. ⌜ r ≡ min n m ⌝ }
 {
     if n < m { n } else { m }
 }
 
-// To add n.
-fn shift_up(n: u64, signed: bool, w: usize) -> Shift
-    requires { ⌜ Width w ⌝ }
-    ensures { λ r. ⌜ Shifts (integer signed) w (pos n) r ⌝ }
+// The offset without its sign.
+fn magnitude(offset: i64) -> u64
+    ensures { λ r. ⌜ r ≡ natAbs offset ⌝ }
 {
-    let k = weight_of(w);
-    let most = 0xffff_ffff_ffff_ffff / k;
-    let c = least(n, most) * k;
-    let flip = flip_of(signed);
-    let delta = std::num::wrapping_add_u64(c, flip);
-    Shift {
-        flip: flip,
-        low: 0,
-        high: most * k - c,
-        delta: delta,
+    if offset >= 0 {
+        offset as u64
+    } else {
+        (-1 - offset) as u64 + 1
     }
 }
 
-// To take n + 1 away.
-fn shift_down(n: u64, signed: bool, w: usize) -> Shift
-    requires { ⌜ Width w ⌝ }
-    requires { ⌜ n < 2 ^ 63 ⌝ }
-    ensures { λ r. ⌜ Shifts (integer signed) w (negsuc n) r ⌝ }
+// What a shift inverts: the sign bit of signed values; to go down, all bits but that.
+fn inverted_bits(signed: bool, down: bool) -> u64
+    ensures { λ r. ⌜ r ≡ cond down (2 ^ 64 - 1 - cond signed (2 ^ 63) 0) (cond signed (2 ^ 63) 0) ⌝ }
 {
-    let k = weight_of(w);
-    let most = 0xffff_ffff_ffff_ffff / k;
-    let c = least(n + 1, most) * k;
-    let flip = flip_of(signed);
-    let delta = std::num::wrapping_add_u64(0xffff_ffff_ffff_ffff - c + 1, flip);
-    Shift {
-        flip: flip,
-        low: c,
-        high: most * k,
-        delta: delta,
+    if down {
+        if signed {
+            0x7fff_ffff_ffff_ffff
+        } else {
+            0xffff_ffff_ffff_ffff
+        }
+    } else {
+        if signed { 0x8000_0000_0000_0000 } else { 0 }
     }
 }
 
@@ -110,10 +92,14 @@ fn shift_of(offset: i64, signed: bool, w: usize) -> Shift
     requires { ⌜ Width w ⌝ }
     ensures { λ r. ⌜ Shifts (integer signed) w offset r ⌝ }
 {
-    if offset >= 0 {
-        shift_up(offset as u64, signed, w)
-    } else {
-        shift_down((-1 - offset) as u64, signed, w)
+    let k = weight_of(w);
+    let most = 0xffff_ffff_ffff_ffff / k;
+    let c = least(magnitude(offset), most) * k;
+    let inverted = inverted_bits(signed, offset < 0);
+    Shift {
+        inverted: inverted,
+        high: most * k - c,
+        delta: c,
     }
 }
 

@@ -49,10 +49,10 @@ unsigned-moved m (negsuc n) v h = minus m v n (ltb v (suc n)) refl h
 
 -- ---- The same of signed numbers: bits v below 2 h stand in the order of their values once h is added, modulo 2 h
 
-is-low : (m x r : ℕ) → x < m → x ≡ r → r ≡ x % m
+pub is-low : (m x r : ℕ) → x < m → x ≡ r → r ≡ x % m
 is-low m x r h e = sym (mod-eq-of-lt h ∙ e)
 
-is-high : (m x r : ℕ) → m ≤ x → x - m < m → x - m ≡ r → r ≡ x % m
+pub is-high : (m x r : ℕ) → m ≤ x → x - m < m → x - m ≡ r → r ≡ x % m
 is-high m x r h k e = sym (mod-eq-sub-mod h ∙ mod-eq-of-lt k ∙ e)
 
 minus-up : (a b : ℕ) → suc b ≤ a → pos a +ℤ negsuc b ≡ pos (a - suc b)

@@ -3,7 +3,8 @@ use mathlib.Core.Path.{_≡_}
 use mathlib.Core.Logic.{_⊎_}
 use mathlib.Core.Bool.{Bool, cond}
 use mathlib.Core.List.{List, reverse}
-use Prim.Native.Nat.{ℕ, _+_, _-_, _*_, _/_, _%_, _^_, _<_, min, max}
+use Prim.Native.Nat.{ℕ, _+_, _-_, _*_, _/_, _%_, _^_, _<_, min}
+use lib.Bits.{bitXor}
 use lib.Dec.{eqb}
 use lib.IntN.{ℤ}
 use Rattle.raster.specs.Bytes.{lowFirst, lowBytes, numberOf, bytesOf}
@@ -15,14 +16,15 @@ use Rattle.offsets.specs.declared.shift.Shift.{Shift}
 abbrev pub weight : ℕ → ℕ
 weight w = 256 ^ (8 - w)
 
--- Of a number of w bytes: each field of the shift counts by what stands in its w highest bytes.
+-- Of a number of w bytes: the bits of `inverted` are inverted, what is above `high` is lowered to it, `delta` is added, and the
+-- same bits are inverted back. Each field of the shift counts by what stands in its w highest bytes.
 unfoldable pub shiftBy : ℕ → Shift → ℕ → ℕ
 shiftBy w s n =
-    (min (s .high / weight w) (max (s .low / weight w) ((n + s .flip / weight w) % 256 ^ w)) + s .delta / weight w) % 256 ^ w
+    bitXor ((min (s .high / weight w) (bitXor n (s .inverted / weight w)) + s .delta / weight w) % 256 ^ w) (s .inverted / weight w)
 
 -- The same of 64 bits, with an element of the weight k at their high end.
 unfoldable pub shiftHigh : ℕ → Shift → ℕ → ℕ
-shiftHigh k s v = (min (s .high) (max (s .low) ((v + s .flip) % 2 ^ 64)) + s .delta / k * k) % 2 ^ 64
+shiftHigh k s v = bitXor ((min (s .high) (bitXor v (s .inverted)) + s .delta / k * k) % 2 ^ 64) (s .inverted)
 
 -- 64 bits with their bytes reversed.
 unfoldable pub swapped : ℕ → ℕ

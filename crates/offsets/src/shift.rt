@@ -1,69 +1,42 @@
 // The offset that is added to an element, as steps that no value of it overflows.
 use crate::numbers::swap;
 ghost use mathlib.Core.Path.{_≡_};
-ghost use Prim.Native.Nat.{_*_, _/_, _^_, _<_, _≤_, min, max};
+ghost use Prim.Native.Nat.{_*_, _/_, _^_, _<_, min};
 ghost use Rattle.offsets.specs.Shifting.{shiftBy, shiftHigh, alignedFrom, restoredTo};
 
-// For elements whose bytes stand at the high end of 64 bits: `flip` is added, modulo 2^64, so that signed values stand in
-// order; then the value is held between `low` and `high`; then `delta` is added, modulo 2^64. Elements of one and two bytes,
-// and of four in runs, are shifted as numbers of 8, 16 and 32 bits, so that the compiler takes several at once.
+// For elements whose bytes stand at the high end of 64 bits: the bits of `inverted` are inverted; what is then above `high` is
+// lowered to it; `delta` is added, modulo 2^64; and the same bits are inverted back. With the sign bit inverted signed values
+// stand in order; with all others inverted the order is turned round, so that adding to a value takes away from it. Elements of
+// one and two bytes, and of four in runs, are shifted as numbers of 8, 16 and 32 bits, so that the compiler takes several at
+// once.
 pub struct Shift {
-    pub flip: u64,
-    pub low: u64,
+    pub inverted: u64,
     pub high: u64,
     pub delta: u64,
 }
 
-fn between_u8(v: u8, low: u8, high: u8) -> u8
-    ensures { λ r. ⌜ r ≡ min high (max low v) ⌝ }
+fn least_u8(v: u8, high: u8) -> u8
+    ensures { λ r. ⌜ r ≡ min high v ⌝ }
 {
-    let mut c = v;
-    if c < low {
-        c = low;
-    }
-    if high < c {
-        c = high;
-    }
-    c
+    if high < v { high } else { v }
 }
 
-fn between_u16(v: u16, low: u16, high: u16) -> u16
-    ensures { λ r. ⌜ r ≡ min high (max low v) ⌝ }
+fn least_u16(v: u16, high: u16) -> u16
+    ensures { λ r. ⌜ r ≡ min high v ⌝ }
 {
-    let mut c = v;
-    if c < low {
-        c = low;
-    }
-    if high < c {
-        c = high;
-    }
-    c
+    if high < v { high } else { v }
 }
 
-fn between_u32(v: u32, low: u32, high: u32) -> u32
-    ensures { λ r. ⌜ r ≡ min high (max low v) ⌝ }
+fn least_u32(v: u32, high: u32) -> u32
+    ensures { λ r. ⌜ r ≡ min high v ⌝ }
 {
-    let mut c = v;
-    if c < low {
-        c = low;
-    }
-    if high < c {
-        c = high;
-    }
-    c
+    if high < v { high } else { v }
 }
 
-fn between_u64(v: u64, low: u64, high: u64) -> u64
-    ensures { λ r. ⌜ r ≡ min high (max low v) ⌝ }
+fn least_u64(v: u64, high: u64) -> u64
+    ensures { λ r. ⌜ r ≡ min high v ⌝ }
 {
-    let mut c = v;
-    if c < low {
-        c = low;
-    }
-    if high < c {
-        c = high;
-    }
-    c
+    if high < v { high } else { v }
 }
 
 // The highest byte, the two highest and the four highest.
@@ -88,25 +61,25 @@ fn top_u32(v: u64) -> u32
 pub fn shifted_u8(n: u8, s: Shift) -> u8
     ensures { λ r. ⌜ r ≡ shiftBy 1 s n ⌝ }
 {
-    let b = std::num::wrapping_add_u8(n, top_u8(s.flip));
-    let c = between_u8(b, top_u8(s.low), top_u8(s.high));
-    std::num::wrapping_add_u8(c, top_u8(s.delta))
+    let m = top_u8(s.inverted);
+    let c = least_u8(n ^ m, top_u8(s.high));
+    std::num::wrapping_add_u8(c, top_u8(s.delta)) ^ m
 }
 
 pub fn shifted_u16(n: u16, s: Shift) -> u16
     ensures { λ r. ⌜ r ≡ shiftBy 2 s n ⌝ }
 {
-    let b = std::num::wrapping_add_u16(n, top_u16(s.flip));
-    let c = between_u16(b, top_u16(s.low), top_u16(s.high));
-    std::num::wrapping_add_u16(c, top_u16(s.delta))
+    let m = top_u16(s.inverted);
+    let c = least_u16(n ^ m, top_u16(s.high));
+    std::num::wrapping_add_u16(c, top_u16(s.delta)) ^ m
 }
 
 pub fn shifted_u32(n: u32, s: Shift) -> u32
     ensures { λ r. ⌜ r ≡ shiftBy 4 s n ⌝ }
 {
-    let b = std::num::wrapping_add_u32(n, top_u32(s.flip));
-    let c = between_u32(b, top_u32(s.low), top_u32(s.high));
-    std::num::wrapping_add_u32(c, top_u32(s.delta))
+    let m = top_u32(s.inverted);
+    let c = least_u32(n ^ m, top_u32(s.high));
+    std::num::wrapping_add_u32(c, top_u32(s.delta)) ^ m
 }
 
 // An element of the weight k at the high end.
@@ -114,9 +87,8 @@ fn shifted(v: u64, k: u64, s: Shift) -> u64
     requires { ⌜ 0 < k ⌝ }
     ensures { λ r. ⌜ r ≡ shiftHigh k s v ⌝ }
 {
-    let b = std::num::wrapping_add_u64(v, s.flip);
-    let c = between_u64(b, s.low, s.high);
-    std::num::wrapping_add_u64(c, s.delta / k * k)
+    let c = least_u64(v ^ s.inverted, s.high);
+    std::num::wrapping_add_u64(c, s.delta / k * k) ^ s.inverted
 }
 
 // An element that was read low byte first, at the high end of 64 bits in its own order; `k` is its weight there.

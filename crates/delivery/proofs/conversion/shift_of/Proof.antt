@@ -1,52 +1,72 @@
--- `delivery::conversion::shift_of` meets its contract: an offset is n, or -(n + 1).
-use mathlib.Core.Path.{sym, ap, subst, _∙_}
-use Prim.Native.Nat.{ℕ, _<_, _^_}
-use lib.IntN.{ℤ, pos, negsuc}
+-- `delivery::conversion::shift_of` meets its contract.
+use mathlib.Core.Path.{refl, ap, _∙_}
+use mathlib.Core.Bool.{cond}
+use Prim.Native.Nat.{ℕ, _-_, _/_, _^_, min}
+use native.Mathlib.Nat.{mul-le-mul-right}
+use native.Mathlib.Omega.{arith}
+use lib.IntN.{ℤ, pos, natAbs}
+use lib.Signed.{ltZ}
 use borrow.Author.Needs.{needs}
-use Rattle.offsets.specs.Shifting.{integer, Shifts}
-use Rattle.delivery.proofs.Signs.{not-below, below}
+use mir.Syntax.{w64}
+use mir.ValLaws.{toZ-ofZ}
+use Rattle.delivery.proofs.Limits.{width-some, some-weight, times-under, shifts-by}
 use Rattle.delivery.proofs.conversion.shift_of.Statement.{statement}
 use Rattle.delivery.proofs.conversion.shift_of.Tie as tie
 
-cast-shift-up : tie.Need-cast-shift-up
-cast-shift-up c = not-below (c .before .args .offset) (c .before .fits .offset) (c .if1 .taken) .0 .0
+weight-of-requires : tie.Need-weight-of-requires
+weight-of-requires c κs = search needs
 
-shift-up-requires : tie.Need-shift-up-requires
-shift-up-requires c κs = search needs
+div-most : tie.Need-div-most
+div-most c =
+    let h = width-some (c .before .pre) in
+    let k = some-weight (c .before .args .w) (h .0) (h .1) in
+    omega arith
 
-sub-shift-down : tie.Need-sub-shift-down
-sub-shift-down c = below (c .before .args .offset) (c .before .fits .offset) (c .if1 .left) .fits
+magnitude-requires : tie.Need-magnitude-requires
+magnitude-requires c κs = search needs
 
-cast-shift-down : tie.Need-cast-shift-down
-cast-shift-down c = below (c .before .args .offset) (c .before .fits .offset) (c .if1 .left) .cast .0
+least-requires : tie.Need-least-requires
+least-requires c κs = search needs
 
-shift-down-requires : tie.Need-shift-down-requires
-shift-down-requires c κs =
-    let u = below (c .before .args .offset) (c .before .fits .offset) (c .if1 .left) in
-    (c .before .pre, subst (λ (k : ℕ). k < 2 ^ 63) (sym (u .cast .1)) (u .cast .2))
+mul-c : tie.Need-mul-c
+mul-c c = omega (arith, times-under (c .least .result) (c .before .before .weight-of .result) 18446744073709551615 (omega arith))
+
+inverted-bits-requires : tie.Need-inverted-bits-requires
+inverted-bits-requires c κs = search needs
+
+mul-t8 : tie.Need-mul-t8
+mul-t8 c =
+    let k = c .before .before .before .weight-of .result in
+    omega (arith, times-under (18446744073709551615 / k) k 18446744073709551615 (omega arith))
+
+sub-t9 : tie.Need-sub-t9
+sub-t9 c =
+    let k = c .before .before .before .weight-of .result in
+    omega (arith, mul-le-mul-right {m = c .before .least .result} {n = 18446744073709551615 / k} k (omega arith))
 
 returns : tie.Need-returns
 returns c =
-    let s = c .before .before in
-    let u = not-below (s .args .offset) (s .fits .offset) (c .before .if1 .taken) in
-    subst (λ (z : ℤ). Shifts (integer (s .args .signed)) (s .args .w) z (c .shift-up .result)) (sym (u .1 ∙ ap pos (sym (u .0 .1))))
-    (c .shift-up .ensures)
-
-returns-2 : tie.Need-returns-2
-returns-2 c =
-    let s = c .before .before in
-    let u = below (s .args .offset) (s .fits .offset) (c .before .if1 .left) in
-    subst (λ (z : ℤ). Shifts (integer (s .args .signed)) (s .args .w) z (c .shift-down .result)) (sym (u .is ∙ ap negsuc (sym (u .cast .1))))
-    (c .shift-down .ensures)
+    let m = c .before .before in
+    let k = m .before .weight-of in
+    let s = m .before .before in
+    let a = s .args in
+    let h = width-some (s .pre) in
+    let e = toZ-ofZ w64 (a .offset) (s .fits .offset) in
+    let f = cond (a .signed) (2 ^ 63) 0 in
+    shifts-by (a .w) (h .0) (h .1) (a .signed) (a .offset) _ _ _ _ (k .ensures) refl
+    (c .before .least .ensures ∙ ap (λ (x : ℕ). min x (18446744073709551615 / k .result)) (m .magnitude .ensures ∙ ap natAbs e))
+    (c .inverted-bits .ensures ∙ ap (λ (z : ℤ). cond (ltZ z (pos 0)) (18446744073709551615 - f) f) e)
 
 pub shift-of-spec : {M : Type 1} → statement M
 shift-of-spec =
     tie.close
     (tie.spec
-    cast-shift-up
-    shift-up-requires
-    sub-shift-down
-    cast-shift-down
-    shift-down-requires
-    returns
-    returns-2)
+    weight-of-requires
+    div-most
+    magnitude-requires
+    least-requires
+    mul-c
+    inverted-bits-requires
+    mul-t8
+    sub-t9
+    returns)
