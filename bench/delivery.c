@@ -159,14 +159,15 @@ static void measure_some(void) {
 
 // With two numbers: all cases of an array of these dimensions. Without: some cases of 2,048 by 2,048, and writing.
 int main(int count, char **words) {
-    size_t most = 64u << 20;
+    size_t d1 = count == 3 ? strtoul(words[1], 0, 10) : 2048, d2 = count == 3 ? strtoul(words[2], 0, 10) : 2048;
+    size_t most = d1 * d2 * 8 > 64u << 20 ? d1 * d2 * 8 : 64u << 20;
     file = malloc(most + 4096), out = malloc(most), expected = malloc(most);
     for (size_t i = 0; i < most + 512; i++) file[i] = (uint8_t)(i * 2654435761u >> 13);
     memset(out, 1, most), memset(expected, 1, most);
     printf("| type | stored | asked | N | configuration | offset | memcpy ms | plain C ms | edf ms | edf / memcpy | edf / C |\n");
     printf("|---|---|---|---|---|---|---|---|---|---|---|\n");
     if (count == 3)
-        measure_all(strtoul(words[1], 0, 10), strtoul(words[2], 0, 10));
+        measure_all(d1, d2);
     else
         measure_some();
     printf("\n| what | limit | highest | cases | above the limit |\n|---|---|---|---|---|\n");

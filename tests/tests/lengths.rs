@@ -1,7 +1,7 @@
-//! Arrays whose lengths stand around those that the library moves at once, 16 and 8,192 bytes, 64 and 256 elements: every type, both byte orders stored and
+//! Arrays whose lengths stand around those that the library moves at once, 16, 512, 1,024 and 65,536 bytes: every type, both byte orders stored and
 //! asked for, offsets that reach the ends of a type's range, and each array as one row, as rows that stand one after another, as
-//! rows the other way round, and as rows that run backwards. And planes that the library delivers tile by tile. By the second reader and
-//! by the library.
+//! rows the other way round, as rows that run backwards, and as planes that stand one after another, the other way round and
+//! apart. And planes that the library delivers tile by tile. By the second reader and by the library.
 
 use edf_tests::both::*;
 use edf_tests::parallel;
@@ -9,7 +9,7 @@ use edf_tests::reader::element::{Form, Type, BYTE_ORDERS, TYPES};
 
 /// Lengths in bytes.
 const LENGTHS: [usize; 20] =
-    [1, 15, 16, 17, 31, 126, 128, 130, 252, 256, 514, 1_020, 1_028, 8_176, 8_191, 8_192, 8_193, 8_208, 16_384, 24_577];
+    [1, 15, 16, 17, 31, 130, 252, 255, 256, 257, 508, 511, 512, 513, 1_020, 1_024, 1_025, 2_049, 65_536, 65_537];
 
 /// Dims for a number of elements, with the raster configuration.
 fn shapes(elements: usize) -> Vec<(String, u32)> {
@@ -17,6 +17,7 @@ fn shapes(elements: usize) -> Vec<(String, u32)> {
     let (many, two) = (format!("Dim_1=7;Dim_2={rows};"), format!("Dim_1={elements};Dim_2=2;"));
     let mut shapes = vec![(format!("Dim_1={elements};"), 1), (many.clone(), 1), (many, 3)];
     shapes.extend([2, 3, 4].map(|configuration| (two.clone(), configuration)));
+    shapes.extend([1, 9, 17].map(|configuration| (format!("Dim_1=7;Dim_2={rows};Dim_3=2;"), configuration)));
     shapes
 }
 
@@ -35,7 +36,7 @@ fn file(kind: Type, order: &str, offset: i64, dims: &str, configuration: u32, da
 /// All arrays of a type and a length: how many.
 fn compared(kind: Type, length: usize) -> usize {
     let elements = length.div_ceil(kind.width);
-    let data: Vec<u8> = (0..kind.width * (2 * elements + 7)).map(|i| (i * 89 + i / 256 + 7) as u8).collect();
+    let data: Vec<u8> = (0..kind.width * (2 * elements + 14)).map(|i| (i * 89 + i / 256 + 7) as u8).collect();
     let most = if kind.form == Form::Float { 0 } else { i64::MAX };
     let mut arrays = 0;
     for order in BYTE_ORDERS {
@@ -57,7 +58,7 @@ fn arrays_of_every_length_are_delivered_alike() {
     let cases: Vec<(Type, usize)> = TYPES.into_iter().flat_map(|kind| LENGTHS.map(|length| (kind, length))).collect();
     parallel::for_each(0..cases.len(), |number| {
         let (kind, length) = cases[number];
-        assert_eq!(compared(kind, length), 2 * 6 * 5 * 2);
+        assert_eq!(compared(kind, length), 2 * 9 * 5 * 2);
     });
 }
 

@@ -115,10 +115,6 @@ module _ (d p : List ℕ) (h : ℕ) (room : h ≤ length d) (first : length p �
   begun-length : length begun ≡ length d
   begun-length = ap length begun-is ∙ simp (length-append, length-drop) (omega arith)
 
-  -- The length of the part that is lent then.
-  pub rest-length : length (take (length begun - h) (drop h begun)) ≡ length d - h
-  rest-length = let l = begun-length in simp (length-take, length-drop) (omega arith)
-
   pub two-parts : (q : List ℕ) → length q ≡ length d - h → patched h (length begun - h) begun q ≡ p ++ q
   two-parts q e =
       let l = begun-length in

@@ -8,12 +8,12 @@ use native.Mathlib.Nat.{le-antisymm, mul-zero, mul-suc, zero-mul}
 use native.Mathlib.Numerals.{add-one}
 use native.Mathlib.Omega.{arith}
 use lib.ListN.{length, take, drop, set, getD, length-take, length-drop}
-use lib.Seq.{take-suc, take-add, take-take, getD-drop, drop-length, drop-drop}
+use lib.Seq.{take-suc, take-add, take-take, take-at, getD-drop, drop-length, drop-drop}
 use Rattle.scan.specs.Buffer.{over}
 use Rattle.raster.specs.Bytes.{joined}
 use Rattle.raster.specs.Strided.{turned, patched, place, Inside, Width, rowOf}
 use Rattle.raster.proofs.RoundTrip.{length-turned}
-use Rattle.elements.proofs.Filling.{over-set, over-part, joined-same, length-joined, piece-more, pieces-done, rest-length, two-parts, mul-next}
+use Rattle.elements.proofs.Filling.{over-set, over-part, joined-same, length-joined, piece-more, pieces-done}
 
 -- The bytes of an element that stands inside are w.
 pub length-element : (w : ℕ) (s : List ℕ) (p : ℕ) → p + w ≤ length s → length (take w (drop p s)) ≡ w
@@ -121,39 +121,21 @@ unfolding rowOf
 either-order w s at up down n e =
     joined-same n _ _ (λ i h. one (take w (drop (place at up down i) s)) (simp length-take (omega arith)))
 
--- A run in two parts: h bytes, and what is left.
-module _ (s : List ℕ) (at h : ℕ) (d p : List ℕ) (room : h ≤ length d) (inside : length d ≤ length s - at) (first : p ≡ take h (drop at s)) where
-  first-length : length p ≡ h
-  first-length = ap length first ∙ simp (length-take, length-drop) (omega arith)
+-- A block by way of e bytes of the array d.
+pub through : (s : List ℕ) (at e : ℕ) (d q r : List ℕ) → e ≤ length d → e ≤ length s - at → q ≡ take (length (take (e - 0) (drop 0 d))) (drop at s)
+    → r ≡ take e (drop 0 (take (e - 0) (drop 0 (patched 0 (e - 0) d q)))) → r ≡ take e (drop at s)
+through s at e d q r room inside eq er =
+    let n : length (take (e - 0) (drop 0 d)) ≡ e = simp length-take (omega arith) in
+    let h : q ≡ take e (drop at s) = eq ∙ ap (λ (k : ℕ). take k (drop at s)) n in
+    let m : length q ≡ e - 0 = ap length h ∙ simp (length-take, length-drop) (omega arith) in
+    er ∙ ap (take e) (take-at q (drop (e - 0) d) (e - 0) m ∙ h) ∙ take-take e e (drop at s) (omega arith)
 
-  abbrev begun : List ℕ
-  begun = patched 0 (h - 0) d p
-
-  pub run-whole : (q : List ℕ) → q ≡ take (length (take (length begun - h) (drop h begun))) (drop (at + h) s)
-      → patched h (length begun - h) begun q ≡ take (length d) (drop at s)
-  run-whole q e =
-      let n = length d - h in
-      let t = drop at s in
-      let b : q ≡ take n (drop h t) =
-      e ∙ ap (λ (k : ℕ). take k (drop (at + h) s)) (rest-length d p h room first-length)
-      ∙ ap (take n) (sym (drop-drop h at s)) in
-      let z : h + n ≡ length d = omega arith in
-      two-parts d p h room first-length q (ap length b ∙ simp (length-take, length-drop) (omega arith))
-      ∙ (λ i. first i ++ b i) ∙ sym (take-add h n t) ∙ ap (λ (i : ℕ). take i t) z
-
--- A block of b bytes by way of an array of as many.
-pub through : (s : List ℕ) (at b n m : ℕ) (h r : List ℕ) → n ≡ b → m ≡ b → h ≡ take n (drop at s) → r ≡ take m (drop 0 h) → r ≡ take b (drop at s)
-through s at b n m h r en em eh er =
-    er ∙ (λ j. take (em j) (eh j)) ∙ ap (λ (k : ℕ). take b (take k (drop at s))) en ∙ take-take b b (drop at s) (omega arith)
-
--- A turn of the loop over blocks of b bytes: the next block is written.
-pub block-more : (s : List ℕ) (at b i k : ℕ) (d l q : List ℕ) → b * i + b ≤ length s - at → k ≡ b → l ≡ over (take (b * i) (drop at s)) d
-    → q ≡ take b (drop (at + b * i) s) → patched (b * i) k l q ≡ over (take (b * (i + 1)) (drop at s)) d
-block-more s at b i k d l q h e g r =
+-- A turn of the loop over blocks: the next k bytes are written.
+pub block-more : (s : List ℕ) (at i k m n : ℕ) (d l q : List ℕ) → i + k ≤ length s - at → m ≡ k → n ≡ k → l ≡ over (take i (drop at s)) d
+    → q ≡ take n (drop (at + i) s) → patched i m l q ≡ over (take (i + k) (drop at s)) d
+block-more s at i k m n d l q h e g w r =
     let t = drop at s in
-    let x : q ≡ take b (drop (b * i) t) = r ∙ ap (take b) (sym (drop-drop (b * i) at s)) in
-    let m : length (take (b * i) t) ≡ b * i = simp (length-take, length-drop) (omega arith) in
-    let n : length q ≡ k = ap length x ∙ simp (length-take, length-drop) (omega arith) in
-    over-part (take (b * i) t) q d l (b * i) k g m n
-    ∙ ap (λ (y : List ℕ). over y d)
-    (ap (λ (y : List ℕ). take (b * i) t ++ y) x ∙ sym (take-add (b * i) b t) ∙ ap (λ (j : ℕ). take j t) (mul-next b i (b * i) refl))
+    let x : q ≡ take k (drop i t) = r ∙ ap (λ (j : ℕ). take j (drop (at + i) s)) g ∙ ap (take k) (sym (drop-drop i at s)) in
+    let a : length (take i t) ≡ i = simp (length-take, length-drop) (omega arith) in
+    let b : length q ≡ m = ap length x ∙ simp (length-take, length-drop) (omega arith) in
+    over-part (take i t) q d l i m w a b ∙ ap (λ (y : List ℕ). over y d) (ap (λ (y : List ℕ). take i t ++ y) x ∙ sym (take-add i k t))

@@ -1,29 +1,16 @@
-// Runs: elements that stand one after another. They go 8,192 or sixteen bytes a turn, and what is left one element a turn.
+// Runs: elements that stand one after another. As they stand they go 65,536 bytes a turn, and reversed sixteen; what is left
+// of those goes one element a turn.
 use crate::octets::get16;
 use crate::octets::put16;
 use crate::octets::reverse_each2;
 use crate::octets::reverse_each4;
 use crate::rows::reversed2;
 use crate::rows::reversed4;
-use crate::rows::spot;
 ghost use mathlib.Core.Path.{_≡_};
-ghost use mathlib.Core.Bool.{true, false};
-ghost use Prim.Native.Nat.{_-_, _*_, _≤_};
+ghost use mathlib.Core.Bool.{true};
+ghost use Prim.Native.Nat.{_-_, _*_, _<_, _≤_};
 ghost use lib.ListN.{length, take, drop};
-ghost use Rattle.raster.specs.Strided.{turned, Inside, rowOf};
-
-fn kept16(src: &[u8], at: usize, up: usize, down: usize, n: usize, out: &mut [u8])
-    requires { ⌜ Inside at up down n 16 (length (now src)) ⌝ }
-    requires { ⌜ length (now out) ≡ 16 * n ⌝ }
-    ensures { λ _. ⌜ now (out .exit) ≡ rowOf (turned false) 16 (now (src .entry)) at up down n ⌝ }
-{
-    let mut i = 0;
-    while i < n {
-        let p = spot(at, up, down, i, 16, src.len());
-        put16(out, 16 * i, get16(src, p));
-        i += 1;
-    }
-}
+ghost use Rattle.raster.specs.Strided.{turned, rowOf};
 
 fn bytes(src: &[u8], at: usize, out: &mut [u8])
     requires { ⌜ length (now out) ≤ length (now src) - at ⌝ }
@@ -36,41 +23,25 @@ fn bytes(src: &[u8], at: usize, out: &mut [u8])
     }
 }
 
-// Sixteen bytes at a time, since a loop over bytes is quick only where the compiler can show that file and buffer lie apart.
-fn short_run(src: &[u8], at: usize, out: &mut [u8])
-    requires { ⌜ length (now out) ≤ length (now src) - at ⌝ }
-    ensures { λ _. ⌜ now (out .exit) ≡ take (length (now (out .entry))) (drop at (now (src .entry))) ⌝ }
-{
-    let m = out.len() / 16;
-    let h = 16 * m;
-    kept16(src, at, 16, 0, m, &mut out[0..h]);
-    bytes(src, at + h, &mut out[h..]);
-}
-
-// A block of 8,192 bytes, by way of a local array. That lies apart from file and buffer, so that the compiler makes one call of
-// memmove of either half; and memmove writes as many bytes at once without reading first what stood there.
+// At most 65,536 bytes, by way of a local array. That lies apart from file and buffer, as these do not for all the compiler
+// knows: so it makes one call of memmove of the two loops, and no array.
 fn block(src: &[u8], at: usize, out: &mut [u8])
     requires { ⌜ length (now out) ≤ length (now src) - at ⌝ }
-    requires { ⌜ length (now out) ≡ 8192 ⌝ }
-    ensures { λ _. ⌜ now (out .exit) ≡ take 8192 (drop at (now (src .entry))) ⌝ }
+    requires { ⌜ length (now out) ≤ 65536 ⌝ }
+    ensures { λ _. ⌜ now (out .exit) ≡ take (length (now (out .entry))) (drop at (now (src .entry))) ⌝ }
 {
-    let mut held = [0u8; 8192];
-    bytes(src, at, &mut held);
-    bytes(&held, 0, out);
+    let e = out.len();
+    let mut held = [0u8; 65536];
+    bytes(src, at, &mut held[0..e]);
+    bytes(&held[0..e], 0, out);
 }
 
-fn blocks(src: &[u8], at: usize, m: usize, out: &mut [u8])
-    requires { ⌜ length (now out) ≤ length (now src) - at ⌝ }
-    requires { ⌜ length (now out) ≡ 8192 * m ⌝ }
-    ensures { λ _. ⌜ now (out .exit) ≡ take (8192 * m) (drop at (now (src .entry))) ⌝ }
+// The bytes of the next block.
+fn next(left: usize) -> usize
+    requires { ⌜ 0 < left ⌝ }
+    ensures { λ r. ⌜ (0 < r) × (r ≤ left) × (r ≤ 65536) ⌝ }
 {
-    let mut i = 0;
-    while i < m {
-        let o = 8192 * i;
-        let e = o + 8192;
-        block(src, at + o, &mut out[o..e]);
-        i += 1;
-    }
+    if left < 65536 { left } else { 65536 }
 }
 
 // The bytes from `at` on.
@@ -78,10 +49,12 @@ pub fn run(src: &[u8], at: usize, out: &mut [u8])
     requires { ⌜ length (now out) ≤ length (now src) - at ⌝ }
     ensures { λ _. ⌜ now (out .exit) ≡ take (length (now (out .entry))) (drop at (now (src .entry))) ⌝ }
 {
-    let m = out.len() / 8192;
-    let h = 8192 * m;
-    blocks(src, at, m, &mut out[0..h]);
-    short_run(src, at + h, &mut out[h..]);
+    let mut i = 0;
+    while i < out.len() {
+        let e = i + next(out.len() - i);
+        block(src, at + i, &mut out[i..e]);
+        i = e;
+    }
 }
 
 // Eight elements of two bytes a turn.

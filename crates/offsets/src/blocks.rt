@@ -23,16 +23,16 @@ ghost use lib.ListN.{length};
 ghost use Rattle.raster.specs.Strided.{Inside, turned, rowOf};
 ghost use Rattle.offsets.specs.Shifting.{Short, shiftedBytes};
 
-// Whether blocks are quicker than one element a turn: not for rows of less than 256 bytes, nor where the bytes of elements of
+// Whether blocks are quicker than one element a turn: not for rows of less than 512 bytes, nor where the bytes of elements of
 // four would be reversed twice.
 pub fn are_quicker(w: usize, n: usize, order: u8, asked: u8) -> bool
     ensures { λ r. ⌜ (r ≡ true → Short w) ⌝ }
 {
     if w == 1 {
-        return 256 <= n;
+        return 512 <= n;
     }
     if w == 2 {
-        return 128 <= n;
+        return 256 <= n;
     }
     if w == 4 {
         if order == 1 {
@@ -40,7 +40,7 @@ pub fn are_quicker(w: usize, n: usize, order: u8, asked: u8) -> bool
                 return false;
             }
         }
-        return 64 <= n;
+        return 128 <= n;
     }
     false
 }

@@ -7,7 +7,7 @@ ghost use Rattle.offsets.specs.Shifting.{shiftBy, shiftHigh, alignedFrom
 // For elements whose bytes stand at the high end of 64 bits: the bits of `inverted` are inverted; what is then above `high` is
 // lowered to it; `delta` is added, modulo 2^64; and the same bits are inverted back. With the sign bit inverted signed values
 // stand in order; with all others inverted the order is turned round, so that adding to a value takes away from it. Elements of
-// one and two bytes, and of four in runs, are shifted as numbers of 8, 16 and 32 bits, so that the compiler takes several at
+// one and two bytes, and of four by blocks, are shifted as numbers of 8, 16 and 32 bits, so that the compiler takes several at
 // once.
 pub struct Shift {
     pub inverted: u64,

@@ -1,68 +1,91 @@
--- `elements::runs::run` meets its contract: two parts of the buffer are written.
-use Prim.Native.Nat.{_*_, _/_}
+-- `elements::runs::run` meets its contract. The invariant: the first i bytes are written.
+use mathlib.Core.Path.{_≡_, refl, _∙_}
+use Prim.Native.Nat.{_+_, _-_, _≤_}
 use native.Mathlib.Omega.{arith}
-use lib.ListN.{length}
-use Rattle.elements.proofs.RowLaws.{run-whole}
 use borrow.Author.Needs.{needs}
+use lib.ListN.{length, take, drop, length-take, length-drop}
+use Rattle.scan.specs.Buffer.{over}
+use Rattle.elements.proofs.RowLaws.{block-more, run-done}
 use Rattle.elements.proofs.runs.run.Statement.{statement}
 use Rattle.elements.proofs.runs.run.Tie as tie
 
-mul-h : tie.Need-mul-h
-mul-h c = search needs
+abbrev Inv-loop : tie.InvT-loop
+Inv-loop src at out₀ i₀ out i = (i ≤ length out₀) × (length out ≡ length out₀) × (out ≡ over (take i (drop at src)) out₀)
 
-sub-blocks : tie.Need-sub-blocks
-sub-blocks c = search needs
+abbrev μ-loop : tie.MeasureT-loop
+μ-loop src at out₀ i₀ out i = length out₀ - i
 
-part-blocks-start : tie.Need-part-blocks-start
-part-blocks-start c = search needs
+loop-holds : tie.Need-loop-holds Inv-loop μ-loop
+loop-holds c = (search needs, refl, refl)
 
-part-blocks-end : tie.Need-part-blocks-end
-part-blocks-end c = search needs
+sub-next : tie.Need-sub-next Inv-loop μ-loop
+sub-next c = search needs
 
-blocks-requires : tie.Need-blocks-requires
-blocks-requires c κs = search needs
+next-requires : tie.Need-next-requires Inv-loop μ-loop
+next-requires c κs = search needs
 
-add-short-run : tie.Need-add-short-run
-add-short-run c = search needs
+add-e : tie.Need-add-e Inv-loop μ-loop
+add-e c = search needs
 
-sub-short-run : tie.Need-sub-short-run
-sub-short-run c = search needs
+add-block : tie.Need-add-block Inv-loop μ-loop
+add-block c = search needs
 
-part-short-run-start : tie.Need-part-short-run-start
-part-short-run-start c = search needs
+sub-block : tie.Need-sub-block Inv-loop μ-loop
+sub-block c = search needs
 
-part-short-run-end : tie.Need-part-short-run-end
-part-short-run-end c = search needs
+part-block-start : tie.Need-part-block-start Inv-loop μ-loop
+part-block-start c = search needs
 
-short-run-requires : tie.Need-short-run-requires
-short-run-requires c κs = search needs
+part-block-end : tie.Need-part-block-end Inv-loop μ-loop
+part-block-end c = omega arith
 
-same-length : tie.Need-same-length
-same-length c = search needs
+block-requires : tie.Need-block-requires Inv-loop μ-loop
+block-requires c κs = search needs
 
-returns : tie.Need-returns
-returns c =
+loop-less : tie.Need-loop-less Inv-loop μ-loop
+loop-less c = omega arith
+
+loop-again : tie.Need-loop-again Inv-loop μ-loop
+loop-again c =
     let b = c .before .before in
-    let k = b .before .before .before .before in
-    let s = k .before .before .before .before in
+    let x = b .before .before in
+    let l = x .before .before in
+    let s = l .before .before .before in
     let a = s .args in
-    let h = 8192 * (length (a .out .now) / 8192) in
-    run-whole (a .src .now) (a .at) h (a .out .now) _ (omega arith) (s .pre)
-    (k .blocks2 .ensures) _ (b .short-run .ensures)
+    let i = l .loop .i in
+    let k = x .next .result in (
+      omega arith,
+      c .before .out .given .1 ∙ l .loop .inv .1,
+      block-more (a .src .now) (a .at) i k (i + k - i) (length (take (i + k - i) (drop i (l .loop .out)))) (a .out .now) _ _ (omega arith) (omega arith)
+          (simp (length-take, length-drop) (omega arith)) (l .loop .inv .2) (b .block .ensures),
+    )
+
+same-length : tie.Need-same-length Inv-loop μ-loop
+same-length c = omega arith
+
+returns : tie.Need-returns Inv-loop μ-loop
+returns c =
+    let l = c .before in
+    let s = l .before .before .before in
+    let a = s .args in
+    run-done (a .src .now) (a .at) (l .loop .i) (a .out .now) _ (s .pre) (l .loop .inv .0) (omega arith) (l .loop .inv .2)
 
 pub run-spec : {M : Type 1} → statement M
 run-spec =
     tie.close
     (tie.spec
-    mul-h
-    sub-blocks
-    part-blocks-start
-    part-blocks-end
-    blocks-requires
-    add-short-run
-    sub-short-run
-    part-short-run-start
-    part-short-run-end
-    short-run-requires
+    Inv-loop
+    μ-loop
+    loop-holds
+    sub-next
+    next-requires
+    add-e
+    add-block
+    sub-block
+    part-block-start
+    part-block-end
+    block-requires
+    loop-less
+    loop-again
     same-length
     returns)
