@@ -1,5 +1,5 @@
 -- The codes of the errors of each call are those that specs/Codes names for it.
-use mathlib.Core.Path.{_≡_, refl, sym, ap, _∙_}
+use mathlib.Core.Path.{_≡_, refl}
 use mathlib.Core.Bool.{Bool, true, false, cond, _&&_, _||_}
 use mathlib.Core.List.{List, [], map}
 use mathlib.Core.Option.{Option}
@@ -16,7 +16,7 @@ use Rattle.scan.specs.declared.Error.{Error}
 use Rattle.text.specs.Number.{wholeNumber}
 use Rattle.text.specs.Text.{every, textByte, valueByte, textOf, shortText, quotedText, escaped, unescaped}
 use Rattle.text.specs.Value.{valueOf}
-use Rattle.header.specs.Entry.{bodyOf, key, entries}
+use Rattle.header.specs.Entry.{bodyOf, key}
 use Rattle.header.specs.Frame.{openingAt, closingAt, endsBody, frameAt, headerAt}
 use Rattle.header.specs.Statements.{statementsFrom, isShort, areDistinct, statementsOf}
 use Rattle.header.specs.declared.Header.{Header}
@@ -31,7 +31,7 @@ use Rattle.array.specs.Describe.{descriptionIn, descriptionOf}
 use Rattle.stored.specs.Stored.{storedWith, storedArray}
 use Rattle.writer.specs.File.{frameDims, frameType, frameAllowed, fileOf, writtenFile}
 use Rattle.writer.specs.declared.Frame.{Frame}
-use Rattle.listing.proofs.DescriptionErrors.{FieldError, description-errors}
+use Rattle.listing.proofs.DescriptionErrors.{description-errors}
 use Rattle.listing.proofs.ErrorLaws.{Errors, no-error, one-error, presence, checks, steps}
 use Rattle.edf.specs.Codes.{within, openCodes, findCodes, numberCodes, textCodes, describeCodes, arrayCodes, storedCodes, pixelCodes, writeCodes, listCodes, IsCodes, of-open, of-find, of-number, of-text, of-describe, of-array, of-stored, of-pixel, of-write, of-list}
 

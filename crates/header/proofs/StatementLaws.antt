@@ -1,5 +1,5 @@
 -- `statementsOf` answers the parse of the grammar exactly if there is one, and else the error of its case.
-use mathlib.Core.Path.{_≡_, refl, sym, ap}
+use mathlib.Core.Path.{_≡_, refl, sym}
 use mathlib.Core.List.{List, [], _∷_, map}
 use mathlib.Core.Option.{Option, none, some, Option·map}
 use Prim.Native.Nat.{ℕ, zero, suc, _+_, _≤_, _<_}
@@ -13,7 +13,7 @@ use Rattle.scan.proofs.Chains.{chain-unique}
 use Rattle.scan.proofs.Decides.{decided, refuted, passes, rejects}
 use Rattle.scan.proofs.Finds.{Finds, found, missing, by-finds, finds-some, finds-none}
 use Rattle.text.specs.Text.{every}
-use Rattle.header.specs.Cases.{Statements, Broken, BrokenBody, TooLong, KeyTwice, StatementsError}
+use Rattle.header.specs.Cases.{Broken, BrokenBody, TooLong, KeyTwice, StatementsError}
 use Rattle.header.specs.Entry.{bodyOf, key}
 use Rattle.header.specs.Grammar.{StatementFrom, OnlyWhitespace, Parse}
 use Rattle.header.specs.Statements.{statementAt, continued, statementsWithin, statementsFrom}

@@ -2,10 +2,8 @@
 use mathlib.Core.Path.{_≡_, refl, sym, ap, _∙_}
 use mathlib.Core.Bool.{Bool, true, false, not, _&&_, _||_, and-true, and-false, and-assoc, or-false, or-assoc, Bool·not-not}
 use mathlib.Core.List.{List, [], _∷_, _++_, map, List·Memᴰ·not-nil}
-use mathlib.Core.Option.{none, some}
 use Prim.Native.Nat.{ℕ, suc, _+_}
 use native.Mathlib.Numerals.{add-one}
-use borrow.Author.Tests.{not-true}
 use Rattle.scan.specs.Byte.{same}
 use Rattle.scan.specs.Outcome.{ok, refused}
 use Rattle.scan.proofs.Cases.{by-test, clash}
@@ -16,7 +14,7 @@ use Rattle.header.specs.Entry.{key}
 use Rattle.header.specs.Grammar.{StatementFrom, OnlyWhitespace}
 use Rattle.header.specs.Hash.{ContainsKeys}
 use Rattle.header.specs.Repeats.{StatementsTo, StillDistinct}
-use Rattle.header.specs.Statements.{statementAt, statementsFrom, isShort, among, areDistinct}
+use Rattle.header.specs.Statements.{statementAt, isShort, among, areDistinct}
 use Rattle.header.specs.declared.Next.the-variants.{One, End, Malformed}
 use Rattle.header.specs.declared.Statement.{Statement}
 use Rattle.header.proofs.Leading.{statement-stands}

@@ -4,7 +4,7 @@ use super::Header;
 use scan::Error;
 use scan::Found;
 ghost use mathlib.Core.Path.{_≡_};
-ghost use Prim.Native.Nat.{_≤_, _<_};
+ghost use Prim.Native.Nat.{_<_};
 ghost use lib.ListN.{length};
 ghost use Rattle.scan.specs.Outcome.{failed, errorAt};
 ghost use Rattle.scan.specs.Search.{firstFrom};

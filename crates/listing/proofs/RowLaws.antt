@@ -1,19 +1,19 @@
 -- The rows of an opened file: each has a view, and lies inside the file.
-use mathlib.Core.Path.{_≡_, refl, sym, ap, _∙_}
-use mathlib.Core.Bool.{true, false, _&&_}
+use mathlib.Core.Path.{_≡_, sym, ap, _∙_}
+use mathlib.Core.Bool.{_&&_}
 use mathlib.Core.List.{List, [], _++_}
 use Prim.Native.Nat.{ℕ, _+_, _≤_, _<_}
 use native.Mathlib.Omega.{arith}
 use borrow.Author.Tests.{le-leb, lt-leb}
 use lib.Dec.{eqb}
-use lib.ListN.{length, take, getD, getElem?}
+use lib.ListN.{length, take, getD}
 use lib.Seq.{length-take-le}
 use Rattle.scan.specs.Outcome.{Outcome, ok, failed, errorAt, _>>=_}
 use Rattle.scan.specs.declared.Error.{Error}
 use Rattle.scan.proofs.Cases.{by-test}
 use Rattle.header.specs.Frame.{headerAt}
 use Rattle.header.specs.declared.Header.{Header}
-use Rattle.blocks.specs.Opening.{opened, openedFile}
+use Rattle.blocks.specs.Opening.{openedFile}
 use Rattle.blocks.specs.declared.Opened.the-variants.{Blocks, Failed}
 use Rattle.blocks.specs.declared.Row.{Row}
 use Rattle.blocks.proofs.Answers.{within-limit}
@@ -21,7 +21,7 @@ use Rattle.blocks.proofs.Errors.{error-bounded}
 use Rattle.blocks.proofs.Sound.{error-sound}
 use Rattle.opening.specs.Core.{Opens}
 use Rattle.opening.specs.declared.Opening.{Opening}
-use Rattle.keyword.specs.Keyword.{View, viewOf}
+use Rattle.keyword.specs.Keyword.{View}
 use Rattle.keyword.specs.Viewing.{headerEntries, rowView}
 use Rattle.keyword.proofs.Views.{taken-at, row-headed, first-headed, row-within, block-view, opening-few}
 use Rattle.array.specs.Describe.{descriptionIn, descriptionOf}

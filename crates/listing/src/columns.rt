@@ -8,7 +8,6 @@ use writer::append::append_natural;
 use writer::words::append_identity;
 use writer::words::append_order;
 use writer::words::append_type;
-ghost use mathlib.Core.Path.{_≡_};
 ghost use mathlib.Core.List.{[], _∷_};
 ghost use Prim.Native.Nat.{_+_, _-_, _≤_, _<_, _^_};
 ghost use lib.ListN.{length, take, getD};

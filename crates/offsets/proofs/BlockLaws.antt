@@ -1,5 +1,5 @@
 -- Rows of elements with an offset added: their byte orders in passes of their own, and block by block.
-use mathlib.Core.Path.{_≡_, refl, sym, ap, subst, _∙_}
+use mathlib.Core.Path.{_≡_, sym, ap, subst, _∙_}
 use mathlib.Core.Logic.{inl, inr, ⊎-elim}
 use mathlib.Core.Bool.{Bool}
 use mathlib.Core.List.{List, [], _++_, append-assoc, append-nil}
@@ -14,7 +14,7 @@ use Rattle.raster.specs.Bytes.{joined, numberOf, bytesOf}
 use Rattle.raster.specs.Strided.{turned, patched, place, Inside, Width, rowOf}
 use Rattle.raster.proofs.RoundTrip.{number-turned, bytes-turned}
 use Rattle.elements.proofs.Filling.{joined-same, length-joined, over-part, mul-room}
-use Rattle.elements.proofs.RowLaws.{length-element, length-row, row-more, row-done}
+use Rattle.elements.proofs.RowLaws.{length-element, length-row}
 use Rattle.elements.proofs.Groups.{strided-add, rest-inside}
 use Rattle.offsets.specs.Shifting.{Short, shiftBy, shiftedBytes}
 use Rattle.offsets.specs.declared.shift.Shift.{Shift}

@@ -8,7 +8,6 @@ use blocks::FileRules;
 use blocks::Opened;
 use blocks::Row;
 use scan::Error;
-ghost use mathlib.Core.Path.{_≡_};
 ghost use Rattle.opening.specs.Core.{Opens};
 
 pub fn opened(file: &[u8]) -> Opening

@@ -7,7 +7,6 @@ use text::signed::Parts;
 use text::signed::apart;
 ghost use mathlib.Core.Path.{_≡_};
 ghost use mathlib.Core.Option.{Option, some, Option·map};
-ghost use lib.Dec.{eqb};
 ghost use lib.IntN.{ℤ, pos};
 ghost use lib.ListN.{length, take};
 ghost use Rattle.scan.specs.Byte.{ascii, same};

@@ -1,9 +1,9 @@
 -- An array that is stored as it is delivered is delivered as it stands.
-use mathlib.Core.Path.{_≡_, refl, sym, ap, subst, _∙_}
+use mathlib.Core.Path.{_≡_, refl, sym, ap, _∙_}
 use mathlib.Core.Bool.{Bool, true, false, _||_, false≢true}
 use mathlib.Core.List.{List, [], _∷_}
 use mathlib.Core.Logic.{_⊎_, inl, inr}
-use Prim.Native.Nat.{ℕ, zero, suc, _+_, _*_, _≤_, _<_}
+use Prim.Native.Nat.{ℕ, _+_, _*_, _<_}
 use native.Mathlib.Nat.{mul-comm, mul-one, one-mul, zero-mul, add-zero}
 use native.Mathlib.Omega.{arith}
 use borrow.Author.Tests.{eqb-true}
@@ -12,7 +12,6 @@ use lib.IntN.{ℤ, pos, negsuc}
 use lib.ListN.{length, take, drop}
 use Rattle.scan.proofs.Cases.{both-true}
 use Rattle.raster.specs.Axis.{configurations, insertWithAfter, orderFrom, orderOf}
-use Rattle.raster.specs.Bytes.{joined}
 use Rattle.raster.specs.Element.{elementBytes}
 use Rattle.raster.specs.Position.{product, positionFrom, storedPosition}
 use Rattle.raster.specs.Strided.{Octets, turned, place, placeOf, rowOf}
@@ -22,7 +21,7 @@ use Rattle.raster.proofs.OrderLaws.{as-three}
 use Rattle.raster.proofs.RoundTrip.{element-moved, element-kept}
 use Rattle.raster.proofs.Stored.{octets-part}
 use Rattle.elements.proofs.RowLaws.{flat, length-element}
-use Rattle.array.specs.Delivery.{arrayType, arrayDims, arrayOrder, storedElement, deliveredElement, delivered}
+use Rattle.array.specs.Delivery.{arrayType, arrayDims, storedElement, deliveredElement, delivered}
 use Rattle.array.specs.Describe.{isZero}
 use Rattle.array.specs.Valid.{ValidArray}
 use Rattle.array.specs.declared.Description.{Description}

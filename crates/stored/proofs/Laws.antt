@@ -14,20 +14,18 @@ use mir.ValLaws.{toZ-ofZ}
 use Rattle.scan.specs.Byte.{partOf}
 use Rattle.scan.specs.Outcome.{Outcome, ok, failed, require, _>>=_, _>>_}
 use Rattle.scan.specs.declared.Error.{Error}
-use Rattle.scan.specs.declared.Span.{Span}
 use Rattle.scan.proofs.Cases.{by-test, ok-failed}
 use Rattle.keyword.specs.Keyword.{View, viewOf}
 use Rattle.keyword.proofs.Views.{view-inside}
 use Rattle.raster.specs.Position.{product}
 use Rattle.raster.specs.Strided.{Octets}
 use Rattle.raster.proofs.Stored.{octets-part}
-use Rattle.array.specs.Delivery.{arrayType, arrayDims, dataOf, isOrder, delivered, arrayOf, arrayIn}
+use Rattle.array.specs.Delivery.{arrayType, arrayDims, dataOf, isOrder, delivered, arrayIn}
 use Rattle.array.specs.Describe.{isZero, descriptionIn, descriptionOf}
-use Rattle.array.specs.Valid.{ValidArray}
 use Rattle.array.specs.declared.Description.{Description}
 use Rattle.array.proofs.DescribedLaws.{step-ok, check-ok, same-ok, block-valid}
 use Rattle.array.proofs.ReadLaws.{no-block, no-description, no-array, array-is, array-valid}
-use Rattle.stored.specs.Stored.{asDelivered, storedWith, storedArray, storedOutcome, Delivers}
+use Rattle.stored.specs.Stored.{storedWith, storedArray, storedOutcome, Delivers}
 use Rattle.stored.specs.declared.Stored.{Stored}
 use Rattle.stored.specs.declared.Stored.the-variants as stored
 use Rattle.stored.specs.declared.StoredArray.{StoredArray}

@@ -6,8 +6,7 @@ use Prim.Native.Nat.{ℕ, _+_, _*_}
 use lib.Dec.{eqb}
 use Rattle.scan.specs.Byte.{partOf}
 use Rattle.scan.specs.Outcome.{Outcome, ok, failed, require, _>>=_, _>>_}
-use Rattle.scan.specs.declared.Span.{Span}
-use Rattle.keyword.specs.Keyword.{View, viewOf}
+use Rattle.keyword.specs.Keyword.{viewOf}
 use Rattle.raster.specs.Position.{product}
 use Rattle.array.specs.Delivery.{arrayType, arrayDims, isOrder, arrayIn}
 use Rattle.array.specs.Describe.{isZero, descriptionIn}

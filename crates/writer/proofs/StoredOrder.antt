@@ -7,7 +7,7 @@ use native.Mathlib.Omega.{arith}
 use lib.IntN.{pos}
 use lib.ListN.{length, take, drop, getD, replicate, length-append, length-take, length-drop, length-replicate}
 use lib.Seq.{getD-take}
-use Rattle.raster.specs.Axis.{Axis, forward, backward, configurations, orderOf}
+use Rattle.raster.specs.Axis.{Axis, configurations, orderOf}
 use Rattle.raster.specs.Bytes.{numberOf, bytesOf, joined}
 use Rattle.raster.specs.Element.{elementBits, elementBytes}
 use Rattle.raster.specs.Position.{product, indexOf, dimOf, along, coordinate, positionFrom, storedPosition, indexAt, linearPosition}

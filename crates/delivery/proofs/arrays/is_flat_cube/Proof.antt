@@ -1,5 +1,5 @@
 -- `delivery::arrays::is_flat_cube` meets its contract.
-use mathlib.Core.Path.{refl, _∙_}
+use mathlib.Core.Path.{refl}
 use borrow.Author.Tests.{eq-eqb, ne-eqb}
 use Rattle.delivery.specs.Flat.{flatCube}
 use borrow.Author.Needs.{needs}

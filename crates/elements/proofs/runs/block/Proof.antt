@@ -1,9 +1,9 @@
 -- `elements::runs::block` meets its contract: the array has the bytes.
-use mathlib.Core.Path.{_≡_, _∙_}
+use mathlib.Core.Path.{_∙_}
 use Prim.Native.Nat.{ℕ, _-_}
 use native.Mathlib.Omega.{arith}
 use borrow.Author.Needs.{needs}
-use borrow.Rule.Slice.PartMut.{putMid, same-len-mid}
+use borrow.Rule.Slice.PartMut.{same-len-mid}
 use lib.ListN.{length, replicate, length-replicate}
 use Rattle.elements.proofs.RowLaws.{through}
 use Rattle.elements.proofs.runs.block.Statement.{statement}

@@ -3,7 +3,7 @@ use borrow.Author.Needs.{needs}
 use Rattle.writer.proofs.Appending.{appended-then, appended-is}
 use native.Mathlib.Omega.{arith}
 use mathlib.Core.Path.{ap}
-use mathlib.Core.List.{List, _∷_}
+use mathlib.Core.List.{_∷_}
 use lib.IntN.{ℤ}
 use Rattle.text.specs.Decimal.{decimal}
 use mir.Syntax.{w64}

@@ -1,7 +1,7 @@
 -- `listing::lines::detail_columns` meets its contract.
 use borrow.Author.Needs.{needs}
 use Rattle.writer.proofs.Appending.{appended-is, appended-nothing}
-use Rattle.listing.proofs.ColumnLaws.{no-details, details-are}
+use Rattle.listing.proofs.ColumnLaws.{no-details}
 use native.Mathlib.Omega.{arith}
 use mathlib.Core.Path.{sym, ap, _∙_}
 use Rattle.array.specs.Answers.{describedOutcome}

@@ -4,9 +4,8 @@ use Rattle.writer.proofs.Appending.{appended-length}
 use Rattle.listing.proofs.Listed.{Listed, listed-none, listed-row, listed-file}
 use Rattle.listing.proofs.RowLaws.{is-row}
 use native.Mathlib.Omega.{arith}
-use mathlib.Core.Path.{_≡_}
 use Prim.Native.Nat.{_+_, _-_, _*_, _≤_}
-use lib.ListN.{length, take}
+use lib.ListN.{take}
 use Rattle.listing.proofs.list.block_lines.Statement.{statement}
 use Rattle.listing.proofs.list.block_lines.Tie as tie
 

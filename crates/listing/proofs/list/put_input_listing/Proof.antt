@@ -2,7 +2,6 @@
 use borrow.Author.Needs.{needs}
 use Rattle.writer.proofs.Appending.{appended-is}
 use Rattle.listing.proofs.RowLaws.{input-too-large, input-small}
-use native.Mathlib.Omega.{arith}
 use Rattle.listing.proofs.list.put_input_listing.Statement.{statement}
 use Rattle.listing.proofs.list.put_input_listing.Tie as tie
 

@@ -2,7 +2,6 @@
 use borrow.Author.Needs.{needs}
 use Rattle.writer.proofs.Appending.{appended-then, appended-is}
 use native.Mathlib.Omega.{arith}
-use mathlib.Core.Path.{ap, sym}
 use Rattle.listing.proofs.RowLaws.{file-rows, error-small, listing-too-large, listing-failed, listing-opened}
 use Rattle.keyword.proofs.Views.{opening-few}
 use Rattle.listing.proofs.list.put_listing.Statement.{statement}
