@@ -4,6 +4,7 @@ pub mod Flats
 pub mod Limits
 pub mod Planes
 pub mod Signs
+pub mod StoredRows
 pub mod Tables
 pub mod TileCopies
 pub mod TileLaws

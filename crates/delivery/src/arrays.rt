@@ -3,6 +3,8 @@ use crate::conversion::Conversion;
 use crate::conversion::conversion_of;
 use crate::rows::row;
 use crate::rows::rows;
+use crate::runs::are_runs;
+use crate::runs::runs;
 use crate::tiles::are_quicker;
 use crate::tiles::bands;
 use elements::rows::spot;
@@ -33,7 +35,8 @@ fn is_flat(w: usize, n1: usize, t: Steps) -> bool
     t.up2 == w * n1
 }
 
-// A plane: as one row, where its rows stand one after another; by tiles, where that is quicker; else row by row.
+// A plane: as one row, where its rows stand one after another; run by run, where its rows are delivered as they stand; by tiles,
+// where that is quicker; else row by row.
 fn plane(src: &[u8], c: Conversion, at: usize, t: Steps, n1: usize, n2: usize, out: &mut [u8])
     requires { ⌜ Width (c .width) ⌝ }
     requires { ⌜ Inside2 at (t .up1) (t .down1) n1 (t .up2) (t .down2) n2 (c .width) (length (now src)) ⌝ }
@@ -43,6 +46,10 @@ fn plane(src: &[u8], c: Conversion, at: usize, t: Steps, n1: usize, n2: usize, o
     let w = c.width;
     if is_flat(w, n1, t) {
         row(src, c, at, w, 0, n1 * n2, out);
+        return;
+    }
+    if are_runs(c, t) {
+        runs(src, at, w * n1, t.up2, t.down2, n2, out);
         return;
     }
     if are_quicker(t, n1) {

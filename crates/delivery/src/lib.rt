@@ -2,4 +2,5 @@
 pub mod arrays;
 pub mod conversion;
 pub mod rows;
+pub mod runs;
 pub mod tiles;
