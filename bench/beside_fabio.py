@@ -9,6 +9,7 @@ that are there already, into which all put their pixels. numpy uses one processo
 that are stored as they are asked for."""
 
 import os
+import random
 import shutil
 import sys
 import tempfile
@@ -28,16 +29,20 @@ behind = {"fabio": [], "numpy": [], "fromfile": [], "memmap": []}  # the rows wh
 
 
 def best(calls):
-    """The least time of each call in ms, over turns in which each is made once, each turn starting with another: at least 15
-    turns, and for a second."""
-    least, turns, end = [float("inf")] * len(calls), 0, time.perf_counter() + 1
-    while turns < 15 or time.perf_counter() < end:
+    """The least time of each call in ms, over turns in which each is made four times in a row, the first of which is not counted: it
+    finds the memory as another one left it. Each turn has an order of its own: at least 8 turns, and for three seconds."""
+    least, turns, end = [float("inf")] * len(calls), 0, time.perf_counter() + 3
+    order, numbers = random.Random(1), list(range(len(calls)))
+    while turns < 8 or time.perf_counter() < end:
         turns += 1
-        for n in range(turns, turns + len(calls)):
-            start = time.perf_counter()
-            result = calls[n % len(calls)]()
-            least[n % len(calls)] = min(least[n % len(calls)], time.perf_counter() - start)
-            del result
+        order.shuffle(numbers)
+        for n in numbers:
+            for row in range(4):
+                start = time.perf_counter()
+                result = calls[n]()
+                took = time.perf_counter() - start
+                del result
+                least[n] = min(least[n], took) if row else least[n]
     return [1000 * t for t in least]
 
 
@@ -169,6 +174,7 @@ def images(folder):
     for data_type in KINDS:
         for low_first in (True, False):
             one_image(folder, data_type, low_first)
+    one_image(folder, "UnsignedByte", True, 3)
     for configuration in (2, 3, 4, 6):
         one_image(folder, "UnsignedShort", True, configuration)
     one_image(folder, "UnsignedShort", True, 1, 10)

@@ -58,7 +58,10 @@ _Image = c_uint64 * (_IMAGE_SIZE // 8 + 1)  # an edf_image and the position of a
 _Length = c_uint64 * 2  # of edf_read_array
 _SYSTEM_ERROR = 255
 _PATH_ENCODING = sys.getfilesystemencoding(), sys.getfilesystemencodeerrors()
-_SMALL = 6 << 20  # files of at most so many bytes are read whole by `read`: mapping them would take longer
+# A file of at most _SMALL bytes is quicker to read whole than to map, if it holds one array as it is delivered and little else. Images
+# come in series of one form: the last one tells. A file of at most _SMALLER bytes is always read whole.
+_SMALL, _SMALLER = 6 << 20, 1 << 20
+_reads_whole = True
 
 _Front = c_char * 0  # the front of a buffer, which may be empty
 
@@ -604,7 +607,8 @@ def read(path, block=0):
     if not 0 <= number < MOST_BLOCKS or _library.edf_image_open(name, address):
         with open(path) as file:  # no number of a block, or no regular file: what `open` makes of it
             return file.array(block)
-    if numpy and image[_FILE_LENGTH] <= _SMALL:
+    size = image[_FILE_LENGTH]
+    if numpy and (size <= _SMALLER or size <= _SMALL and _reads_whole):
         return _loaded(path, image, address, number, numpy)
     try:
         return _mapped(path, image, address, number, numpy)
@@ -619,6 +623,7 @@ def _checked(code, path, image):
 
 def _loaded(path, image, address, number, numpy):
     """An array of a file that is read whole. It is a part of the bytes read, where they hold it as it is asked for and little else."""
+    global _reads_whole
     size = image[_FILE_LENGTH]
     try:
         whole = numpy.empty(size + 63, "u1")
@@ -631,7 +636,9 @@ def _loaded(path, image, address, number, numpy):
     _checked(_library.edf_image_load(address, memory + front, number, _NATIVE_ORDER, address + _IMAGE_SIZE), path, image)
     datatype, n, dim1, dim2, dim3, start, length, delivered = _IMAGE.unpack_from(image)
     shape, kind = (dim3, dim2, dim1)[3 - n :], _NUMPY_TYPES[datatype]
-    if delivered and start % 8 == 0 and 2 * length > size:
+    is_file = delivered and 2 * length > size
+    _reads_whole = bool(is_file)
+    if is_file and start % 8 == 0:
         return numpy.ndarray(shape, kind, whole, front + start)
     out = numpy.empty(shape, kind)
     owner = _Front.from_buffer(out)
@@ -641,8 +648,10 @@ def _loaded(path, image, address, number, numpy):
 
 def _mapped(path, image, address, number, numpy):
     """An array of a file that is mapped."""
+    global _reads_whole
     _checked(_library.edf_image_map(address, number, _NATIVE_ORDER, address + _IMAGE_SIZE), path, image)
-    datatype, n, dim1, dim2, dim3, _start, length, _delivered = _IMAGE.unpack_from(image)
+    datatype, n, dim1, dim2, dim3, _start, length, delivered = _IMAGE.unpack_from(image)
+    _reads_whole = bool(delivered) and 2 * length > image[_FILE_LENGTH]
     out = numpy.empty((dim3, dim2, dim1)[3 - n :], _NUMPY_TYPES[datatype]) if numpy else bytearray(max(length, 1))
     owner = _Front.from_buffer(out)
     _checked(_library.edf_image_read(address, ctypes.addressof(owner), length, address + _IMAGE_SIZE), path, image)

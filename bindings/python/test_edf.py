@@ -462,13 +462,14 @@ class Reading(unittest.TestCase):
     def setUp(self):
         self.folder = tempfile.TemporaryDirectory()
         self.addCleanup(self.folder.cleanup)
-        self.addCleanup(setattr, edf, "_SMALL", edf._SMALL)
+        for name in ("_SMALL", "_SMALLER", "_reads_whole"):
+            self.addCleanup(setattr, edf, name, getattr(edf, name))
         self.path = os.path.join(self.folder.name, "image.edf")
 
     def ways(self):
         """Every way: small files are read whole, or mapped; without numpy all are mapped."""
         for most in (edf._SMALL, 0):
-            edf._SMALL = most
+            edf._SMALL = edf._SMALLER = most
             yield most
         with without_numpy():
             yield None
@@ -576,16 +577,62 @@ class Reading(unittest.TestCase):
                 answer(lambda path: edf.read(path) if os.path.isfile(path) else None, fixture(name))
         self.assertEqual(os.listdir("/dev/fd"), before)
 
+    def image(self, side, order="<", name="image.edf"):
+        """Writes a file with an image of side by side elements of 4 bytes; its path and the image."""
+        array = (numpy.arange(side * side, dtype="uint32") * 2654435761 >> 7).astype("uint32").reshape(side, side)
+        body = b"{\nDataType = UnsignedInteger ;\nByteOrder = %s ;\nDim_1 = %d ;\nDim_2 = %d ;\nSize = %d ;\n"
+        body %= (b"LowByteFirst" if order == "<" else b"HighByteFirst", side, side, array.nbytes)
+        path = os.path.join(self.folder.name, name)
+        pathlib.Path(path).write_bytes(body.ljust(510) + b"}\n" + array.astype(order + "u4").tobytes())
+        return path, array
+
     @with_numpy
     def test_large_arrays(self):
-        """Those that several threads read."""
-        for side in (1500, 2048, 2500):
-            array = (numpy.arange(side * side, dtype="uint32") * 2654435761 >> 7).astype("uint32").reshape(side, side)
-            body = b"{\nDataType = UnsignedInteger ;\nByteOrder = LowByteFirst ;\nDim_1 = %d ;\nDim_2 = %d ;\nSize = %d ;\n"
-            self.write((body % (side, side, array.nbytes)).ljust(510) + b"}\n" + array.astype("<u4").tobytes())
-            self.assertTrue((edf.read(self.path) == array).all())
-            with edf.open(self.path) as file:
+        """Those that several threads read, and those of which another thread asks for the memory."""
+        for side, order in ((1500, "<"), (2048, "<"), (2500, "<"), (2500, ">"), (3000, "<"), (3000, ">")):
+            path, array = self.image(side, order)
+            self.assertTrue((edf.read(path) == array).all())
+            with edf.open(path) as file:
                 self.assertTrue((file.array(0) == array).all())
+
+    @with_numpy
+    def test_series_of_two_forms(self):
+        """The form of the last image decides how the next is read, and nothing else."""
+        images = [self.image(side, order, "%d%s" % (side, order)) for side in (600, 900, 1100) for order in "<>"]
+        for _ in range(3):
+            for path, array in images:
+                for _ in range(2):
+                    self.assertTrue((edf.read(path) == array).all(), path)
+        self.assertEqual(len({edf._reads_whole for path, _ in images for _ in [edf.read(path)]}), 2)
+
+    @with_numpy
+    def test_large_arrays_in_several_threads(self):
+        images = [self.image(side, order, "%d%s" % (side, order)) for side in (1000, 1500, 2900) for order in "<>"]
+        wrong = []
+
+        def read(first):
+            for n in range(12):
+                path, array = images[(first + n) % len(images)]
+                if not (edf.read(path) == array).all():
+                    wrong.append(path)
+
+        threads = [threading.Thread(target=read, args=[first]) for first in range(4)]
+        for thread in threads:
+            thread.start()
+        for thread in threads:
+            thread.join()
+        self.assertEqual(wrong, [])
+
+    @with_numpy
+    def test_large_arrays_in_a_forked_process(self):
+        """It has none of the threads that helped its parent."""
+        path, array = self.image(1500)
+        for _ in range(3):
+            self.assertTrue((edf.read(path) == array).all())
+            child = os.fork()
+            if child == 0:
+                os._exit(0 if (edf.read(path) == array).all() and (edf.read(path) == array).all() else 1)
+            self.assertEqual(os.waitpid(child, 0)[1], 0)
 
 
 class Writing(unittest.TestCase):
