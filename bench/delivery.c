@@ -1,6 +1,6 @@
 // How long the delivery of an array takes, beside memcpy and beside plain C that does the same. One line for each case: the
-// times in ms, and the ratios. All of it in one run on the same buffers, which are touched first; the best of nine
-// turns or more (300 ms), each with all three, so that other work on the machine falls on all alike.
+// times in ms, and the ratios. All of it in one run, from and to the same two buffers, which are touched first, so that all three find
+// the caches alike; the best of nine turns or more (300 ms), each with all three, so that other work on the machine falls on all alike.
 #include <stdint.h>
 #include <stdio.h>
 #include <stdlib.h>
@@ -90,16 +90,19 @@ static void measure(int type, int low_first, int asked_low, int n, size_t d1, si
     double best[3] = {1e9, 1e9, 1e9};
     size_t length = 0, position = 0;
     uint8_t code = 0;
+    plain(file + head, expected, types[type].width, types[type].is_signed, low_first, asked_low, offset, at, step, dim);
     double start = now();
     for (int turn = 0; turn < TURNS || now() < start + LEAST_MS; turn++)
         for (int what = 0; what < 3; what++) {
             double t = now();
             if (what == 0) memcpy(out, file + head, size);
-            if (what == 1) plain(file + head, expected, types[type].width, types[type].is_signed, low_first, asked_low, offset, at, step, dim);
+            if (what == 1) plain(file + head, out, types[type].width, types[type].is_signed, low_first, asked_low, offset, at, step, dim);
             if (what == 2) code = edf_read_array(file, head + size, 0, asked_low ? 2 : 1, out, size, &length, &position);
             t = now() - t;
             if (t < best[what]) best[what] = t;
         }
+    memset(out, ~expected[0], size);
+    if (code == 0) code = edf_read_array(file, head + size, 0, asked_low ? 2 : 1, out, size, &length, &position);
     if (code != 0 || length != size || memcmp(out, expected, size) != 0) {
         printf("wrong: %s configuration %d: code %d at %zu\n", types[type].word, configuration, code, position);
         exit(1);

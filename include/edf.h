@@ -8,7 +8,8 @@
  * a file must not change during a call: a file that another program may still write is to be read, not mapped.
  *
  * Calls with `file` and `block` judge the whole file first: its errors are "those of opening", 1 and 3 to 15, with their positions.
- * Blocks are numbered from 0. No call keeps anything: every one may be made from several threads at once.
+ * Blocks are numbered from 0. Every call may be made from several threads at once. No call keeps anything, but for the threads that help
+ * with large images (edf_image_read): they stay asleep for a tenth of a second, for the next one.
  */
 #ifndef EDF_H
 #define EDF_H
@@ -180,8 +181,8 @@ uint8_t edf_keywords(const uint8_t *header, size_t header_length, uint8_t *out, 
  * edf_image_open opens a regular file: its descriptor and `file_length`. Then one of two calls judges it, and describes the array of
  * a block in a byte order (edf_stored_array): edf_image_map maps the file; edf_image_load reads it whole into `memory`, which has
  * `file_length` bytes and is lent as long as the image is used, and closes it. edf_image_read puts the `length` bytes of the array at the front of `out`:
- * where they are stored as they are asked for, they are read from the file, large ones by several threads at once; else
- * edf_read_array makes them. edf_image_close lets all go; after an error of the calls between, too. */
+ * where they are stored as they are asked for, they are read from the file, those of 3 MiB and more by several threads at once, as many
+ * as the calling thread has processors and at most four; else edf_read_array makes them. edf_image_close lets all go; after an error of the calls between, too. */
 enum { EDF_SYSTEM_ERROR = 255 };
 typedef struct {
     uint8_t datatype, byteorder, compression, n;
