@@ -35,7 +35,7 @@ static size_t threads;
  * when it is read. */
 static int expected;
 
-/* So many threads help at the most. They stay for so long after a task, in nanoseconds: waking one takes a tenth of starting it. */
+/* So many threads help at the most. They stay for so long after a task, in nanoseconds: waking one is quicker than starting one. */
 enum { MOST_HELPERS = 3, IDLE = 100000000 };
 
 /* So often a thread looks again before it sleeps, for a task or for the end of one: waking takes longer than a piece. */
