@@ -53,7 +53,7 @@ module _ (s : List ℕ) where
   pub reach : {r : FileRules} (rows : List Row) {at : ℕ} → Passed s r rows at → (n : ℕ) → n + length rows ≡ 257
       → opened s ≡ openedFrom n s rows at r
   unfolding opened
-  reach [] p n fuel = absurd (omega (arith, p .some))
+  reach [] p n fuel = absurd (omega (arith, p .not-empty))
   reach {r} (x ∷ xs) {at} p n fuel =
       let k : length xs + n ≡ 256 = omega arith in
       step-on 256 s [] 0 noRules (rejects (ended-decides 0 0 (length s)) (λ h. h .0 refl)) (λ z. omega arith)
@@ -68,14 +68,14 @@ module _ (s : List ℕ) where
       let p : Passed s (c .rules) rows (length s) = record {
         first-header = c .first-header;
         blocks = c .blocks;
-        some = c .some;
+        not-empty = c .not-empty;
         few = omega (arith, c .few);
         identities = c .identities;
       } in
       let fuel : suc (256 - length rows) + length rows ≡ 257 = omega (arith, c .few) in
       reach rows p (suc (256 - length rows)) fuel
       ∙ step-done (256 - length rows) s rows (length s) (c .rules)
-      (passes (ended-decides (length rows) (length s) (length s)) ((λ z. omega (arith, c .some)), refl))
+      (passes (ended-decides (length rows) (length s) (length s)) ((λ z. omega (arith, c .not-empty)), refl))
       (passes (count-decides (c .rules .expected) (length rows)) (c .count))
 
   -- ---- And an error that is due
@@ -105,5 +105,5 @@ module _ (s : List ℕ) where
       stands p ∙ step-full (256 - length rows) s rows at r (goes-on p n) full
   error-complete (wrong-count {r = r} {rows = rows} p n) =
       stands p ∙ step-count (256 - length rows) s rows (length s) r
-      (passes (ended-decides (length rows) (length s) (length s)) ((λ z. omega (arith, p .some)), refl))
+      (passes (ended-decides (length rows) (length s) (length s)) ((λ z. omega (arith, p .not-empty)), refl))
       (rejects (count-decides (r .expected) (length rows)) n)

@@ -62,7 +62,7 @@ module _ (s : List ℕ) where
 
   -- A file has 1 to 256 blocks.
   pub some-and-few : {rows : List Row} → Partition s rows → (1 ≤ length rows) × (length rows ≤ 256)
-  some-and-few c = (c .some, c .few)
+  some-and-few c = (c .not-empty, c .few)
 
   -- A file that has no partition gets an error, with a code from 3 to 15.
   pub refuses : ((rows : List Row) → Partition s rows → ⊥) → (e : Error) × (opened s ≡ failed e) × Bounded s e

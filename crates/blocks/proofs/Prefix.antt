@@ -52,9 +52,9 @@ module _ (n : ℕ) (s t : List ℕ) (agree : take n s ≡ take n t) where
 
   pub passed-local : {r : FileRules} {rows : List Row} {at : ℕ} → at ≤ n → Passed s r rows at → Passed t r rows at
   passed-local {r} {rows} {at} l p = record {
-    first-header = first-local rows at l (p .some) (p .blocks) (p .first-header);
+    first-header = first-local rows at l (p .not-empty) (p .blocks) (p .first-header);
     blocks = chain-kept (IsBlock s r) (IsBlock t r) (λ k x m b. block-inside b .0) at (λ k x m u b. block-local (omega arith) b) 0 rows (p .blocks);
-    some = p .some;
+    not-empty = p .not-empty;
     few = p .few;
     identities = p .identities;
   }

@@ -47,7 +47,7 @@ module _ {s : List ℕ} where
 
   pub passed-past : {r : FileRules} {rows : List Row} {at : ℕ} → Passed s r rows at → at ≢ 0
   passed-past {r} {rows} {at} p z =
-      omega (arith, chain-length (IsBlock s r) (λ k x n b. block-inside b .0) at 0 rows (p .blocks), p .some)
+      omega (arith, chain-length (IsBlock s r) (λ k x n b. block-inside b .0) at 0 rows (p .blocks), p .not-empty)
 
   -- One block more that repeats no identity.
   pub passed-more : {r : FileRules} {rows : List Row} {at next : ℕ} {row : Row} → Passed s r rows at → length rows < 256
@@ -55,7 +55,7 @@ module _ {s : List ℕ} where
   passed-more {r} {rows} {at} {next} {row} p l b n = record {
     first-header = p .first-header;
     blocks = chain-more (IsBlock s r) at next row b 0 rows (p .blocks);
-    some = omega (arith, length-append rows (row ∷ []));
+    not-empty = omega (arith, length-append rows (row ∷ []));
     few = omega (arith, length-append rows (row ∷ []));
     identities = distinct-more rows row (p .identities) n;
   }
@@ -64,7 +64,7 @@ module _ {s : List ℕ} where
   passed-first {next = next} f b = record {
     first-header = f;
     blocks = (next, b, refl);
-    some = omega arith;
+    not-empty = omega arith;
     few = omega arith;
     identities = ((λ y m a. List·Memᴰ·not-nil m), tt);
   }
@@ -85,7 +85,7 @@ module _ (s : List ℕ) where
         rules = r;
         first-header = p .first-header;
         blocks = p .blocks;
-        some = p .some;
+        not-empty = p .not-empty;
         few = omega (arith, p .few);
         identities = p .identities;
         count = decided (count-decides (r .expected) (length rows)) c;
@@ -95,10 +95,10 @@ module _ (s : List ℕ) where
   -- After the blocks that pass, before the end.
   module _ {r : FileRules} {rows : List Row} {at : ℕ} (p : Passed s r rows at) where
     pub not-first : eqb (length rows) 0 ≡ false
-    not-first = ne-eqb (length rows) 0 (λ z. omega (arith, p .some))
+    not-first = ne-eqb (length rows) 0 (λ z. omega (arith, p .not-empty))
 
     not-at-end : ended (length rows) at (length s) ≡ false → at ≢ length s
-    not-at-end e q = refuted (ended-decides (length rows) at (length s)) e ((λ z. omega (arith, p .some)), q)
+    not-at-end e q = refuted (ended-decides (length rows) at (length s)) e ((λ z. omega (arith, p .not-empty)), q)
 
     -- What the next block is.
     next-says : (o : Outcome Accepted) → blockAt s r (eqb (length rows) 0) at ≡ o → BlockSays s r false at o

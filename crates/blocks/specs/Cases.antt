@@ -19,6 +19,7 @@ use Rattle.header.specs.declared.Header.{Header}
 use Rattle.header.specs.declared.Statement.{Statement}
 use Rattle.blocks.specs.Grammar.{Declares, HasRole, HasSize, MultipleOf, HasHeader, IsBlock, FirstHeader, SameIdentity, DistinctIdentities, CountIs}
 use Rattle.blocks.specs.Keys.{FileNameKey, HeaderSizeKey, countingIn}
+use Rattle.blocks.specs.Limits.{blockLimit, defaultBoundary}
 use Rattle.blocks.specs.Values.{HeaderSize}
 use Rattle.blocks.specs.declared.FileRules.{FileRules}
 use Rattle.blocks.specs.declared.Row.{Row}
@@ -80,8 +81,8 @@ pub data BlockError (s : List ℕ) (given : FileRules) (isFirst : Bool) (start :
 pub record Passed (s : List ℕ) (r : FileRules) (rows : List Row) (at : ℕ) : Type 0 where
   pub first-header : FirstHeader s r
   pub blocks : Chain (IsBlock s r) (λ end. end ≡ at) 0 rows
-  pub some : 1 ≤ length rows
-  pub few : length rows ≤ 256
+  pub not-empty : 1 ≤ length rows
+  pub few : length rows ≤ blockLimit
   pub identities : DistinctIdentities rows
 
 -- A row has the identity of one of some rows.
@@ -90,20 +91,20 @@ Repeats rows x = (y : Row) × List·Memᴰ y rows × SameIdentity y x
 
 -- The rules before the first header is read: none that matter.
 abbrev pub noRules : FileRules
-noRules = record { kind = 1; boundary = 512; expected = 0 }
+noRules = record { kind = 1; boundary = defaultBoundary; expected = 0 }
 
 -- The error of a file, by the blocks that pass before it: "block by block in the order below, .. 14 before anything else of its
 -- block; 15 last".
 pub data FileError (s : List ℕ) : Error → Type 0 where
   -- 3 to 12 of the first block, and of a later one
   first-block : {e : Error} → BlockError s noRules true 0 e → FileError s e
-  later-block : {r : FileRules} {rows : List Row} {at : ℕ} {e : Error} → Passed s r rows at → length rows < 256 → at ≢ length s
+  later-block : {r : FileRules} {rows : List Row} {at : ℕ} {e : Error} → Passed s r rows at → length rows < blockLimit → at ≢ length s
       → BlockError s r false at e → FileError s e
   -- 13: "identity twice"
-  identity-twice : {r : FileRules} {rows : List Row} {at next : ℕ} {row : Row} → Passed s r rows at → length rows < 256
+  identity-twice : {r : FileRules} {rows : List Row} {at next : ℕ} {row : Row} → Passed s r rows at → length rows < blockLimit
       → IsBlock s r at row next → Repeats rows row → FileError s (errorAt 13 at)
   -- 14: "bytes left after 256 blocks"
-  too-many : {r : FileRules} {rows : List Row} {at : ℕ} → Passed s r rows at → length rows ≡ 256 → at ≢ length s
+  too-many : {r : FileRules} {rows : List Row} {at : ℕ} → Passed s r rows at → length rows ≡ blockLimit → at ≢ length s
       → FileError s (errorAt 14 at)
   -- 15: "EDF_DataBlocks does not match"
   wrong-count : {r : FileRules} {rows : List Row} → Passed s r rows (length s) → (CountIs (r .expected) (length rows) → ⊥)

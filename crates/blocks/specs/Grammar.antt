@@ -13,6 +13,7 @@ use Rattle.header.specs.Grammar.{IsHeader, Parse}
 use Rattle.header.specs.declared.Header.{Header}
 use Rattle.header.specs.declared.Statement.{Statement}
 use Rattle.blocks.specs.Keys.{VersionKey, DataBlocksKey, BlockIDKey, BoundaryKey, HeaderSizeKey, FileNameKey, first, second, kindOf, counting, countingIn, sizeValue}
+use Rattle.blocks.specs.Limits.{blockLimit, defaultBoundary}
 use Rattle.blocks.specs.Values.{NumberOr, HeaderSize, IsVersion, AsksFor, IsIdentity}
 use Rattle.blocks.specs.declared.FileRules.{FileRules}
 use Rattle.blocks.specs.declared.Row.{Row}
@@ -26,12 +27,12 @@ pub record GeneralRules (es : List Entry) (r : FileRules) : Type 0 where
   pub version : IsVersion (first es .value)
   pub blocks-key : second es .key ≡ DataBlocksKey
   pub expected : AsksFor (second es .value) (r .expected)
-  pub boundary : NumberOr 512 1 (valueIn BoundaryKey (counting es)) (r .boundary)
+  pub boundary : NumberOr defaultBoundary 1 (valueIn BoundaryKey (counting es)) (r .boundary)
   pub kind : r .kind ≡ 2
 
 -- The rules of a file with no general header.
 abbrev pub plainRules : ℕ → FileRules
-plainRules kind = record { kind = kind; boundary = 512; expected = 0 }
+plainRules kind = record { kind = kind; boundary = defaultBoundary; expected = 0 }
 
 -- A first header with the entries `es` gives the file the rules `r`. "Kind 2, first header: its first key is
 -- EDF_DataFormatVersion (..) or EDF_DataBlockID."
@@ -62,7 +63,7 @@ HasSize r es size = NumberOr 0 0 (sizeValue (r .kind) es) size
 
 -- "a multiple of the boundary".
 abbrev pub MultipleOf : ℕ → ℕ → Type 0
-MultipleOf boundary length = (n : ℕ) × (length ≡ n * boundary)
+MultipleOf boundary size = (n : ℕ) × (size ≡ n * boundary)
 
 -- All the rules on the keys of one header. "EDF_BinaryFileName must not count."
 pub record KeepsRules (r : FileRules) (start : ℕ) (es : List Entry) (row : Row) : Type 0 where
@@ -119,8 +120,8 @@ pub record Partition (s : List ℕ) (rows : List Row) : Type 0 where
   pub rules : FileRules
   pub first-header : FirstHeader s rules
   pub blocks : Chain (IsBlock s rules) (λ at. at ≡ length s) 0 rows
-  pub some : 1 ≤ length rows
-  pub few : length rows ≤ 256
+  pub not-empty : 1 ≤ length rows
+  pub few : length rows ≤ blockLimit
   pub identities : DistinctIdentities rows
   pub count : CountIs (rules .expected) (length rows)
 

@@ -14,6 +14,7 @@ use Rattle.header.specs.Entry.{Entry, bodyOf, entries, valueIn}
 use Rattle.header.specs.Frame.{headerAt}
 use Rattle.header.specs.Statements.{statementsOf}
 use Rattle.blocks.specs.Keys.{VersionKey, DataBlocksKey, BlockIDKey, BoundaryKey, HeaderSizeKey, FileNameKey, first, second, isEdfKey, counting, countingIn, sizeValue}
+use Rattle.blocks.specs.Limits.{defaultBoundary}
 use Rattle.blocks.specs.Reading.{numberOr, isVersion, askedFor, identityOf}
 use Rattle.blocks.specs.declared.Accepted.{Accepted}
 use Rattle.blocks.specs.declared.FileRules.{FileRules}
@@ -35,7 +36,7 @@ generalBy (some expected) (some boundary) = some (rulesWith 2 boundary expected)
 unfoldable pub generalRules : List Entry → Option FileRules
 generalRules es =
     cond (isVersion (first es .value) && same (second es .key) DataBlocksKey)
-    (generalBy (askedFor (second es .value)) (numberOr 512 1 (valueIn BoundaryKey (counting es))))
+    (generalBy (askedFor (second es .value)) (numberOr defaultBoundary 1 (valueIn BoundaryKey (counting es))))
     none
 
 -- Of any first header; none where a rule is broken.
@@ -43,8 +44,8 @@ unfoldable pub rulesOf : List Entry → Option FileRules
 rulesOf es =
     cond (isEdfKey (first es .key))
     (cond (same (first es .key) VersionKey) (generalRules es)
-    (cond (same (first es .key) BlockIDKey) (some (rulesWith 2 512 0)) none))
-    (some (rulesWith 1 512 0))
+    (cond (same (first es .key) BlockIDKey) (some (rulesWith 2 defaultBoundary 0)) none))
+    (some (rulesWith 1 defaultBoundary 0))
 
 -- ---- What a header says of its block
 

@@ -4,6 +4,7 @@ pub mod Grammar
 pub mod IdentityText
 pub mod Keys
 pub mod Judging
+pub mod Limits
 pub mod Opening
 pub mod Reading
 pub mod Values

@@ -8,6 +8,7 @@ use lib.IntN.{ℤ, pos, negsuc}
 use lib.ListN.{length, drop}
 use Rattle.scan.specs.Outcome.{Outcome, ok, failed, refused, require, _>>=_, _>>_}
 use Rattle.blocks.specs.Judging.{blockAt, rulesWith}
+use Rattle.blocks.specs.Limits.{fileLimit, blockLimit, defaultBoundary}
 use Rattle.blocks.specs.declared.FileRules.{FileRules}
 use Rattle.blocks.specs.declared.Row.{Row}
 
@@ -49,24 +50,24 @@ openedFrom (suc n) s rows at r =
     cond (ended (length rows) at (length s))
     (require (countMatches (r .expected) (length rows)) 15 0 >> ok rows)
     (do
-      require (not (eqb (length rows) 256)) 14 at
+      require (not (eqb (length rows) blockLimit)) 14 at
       b ← blockAt s r (eqb (length rows) 0) at
       require (not (repeats rows (b .row))) 13 at
       openedFrom n s (rows ++ (b .row ∷ [])) (b .next) (b .rules))
 
 -- The rows of a file: 256 blocks, and one look more to find the end.
 unfoldable pub opened : List ℕ → Outcome (List Row)
-opened s = openedFrom 257 s [] 0 (rulesWith 1 512 0)
+opened s = openedFrom (suc blockLimit) s [] 0 (rulesWith 1 defaultBoundary 0)
 
 -- For a call on a block: 1, "file over 1,073,741,824 bytes", then the rest of opening.
 unfoldable pub openedFile : List ℕ → Outcome (List Row)
-openedFile s = require (leb (length s) 1073741824) 1 0 >> opened s
+openedFile s = require (leb (length s) fileLimit) 1 0 >> opened s
 
 -- For a table of n rows: 1, then 2, "table under 256 rows", then the rest.
 unfoldable pub openedInto : ℕ → List ℕ → Outcome (List Row)
 openedInto n s = do
-  require (leb (length s) 1073741824) 1 0
-  require (leb 256 n) 2 0
+  require (leb (length s) fileLimit) 1 0
+  require (leb blockLimit n) 2 0
   opened s
 
 -- What the call answers: the number of rows.

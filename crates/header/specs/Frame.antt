@@ -9,6 +9,7 @@ use Rattle.scan.specs.Outcome.{Outcome, ok, require, present, _>>=_, _>>_}
 use Rattle.scan.specs.Search.{firstFrom, positionOf}
 use Rattle.scan.specs.declared.Found.{Found}
 use Rattle.scan.specs.declared.Found.the-variants.{At, Nothing}
+use Rattle.header.specs.Limits.{headerLimit}
 use Rattle.header.specs.declared.Header.{Header}
 
 -- Where the `{` of a start pattern at `start` is.
@@ -46,4 +47,4 @@ frameAt s start = do
 
 -- "within the block's first 65,536 bytes"
 unfoldable pub headerAt : List ℕ → ℕ → Outcome Header
-headerAt s start = frameAt (take (start + 65536) s) start
+headerAt s start = frameAt (take (start + headerLimit) s) start

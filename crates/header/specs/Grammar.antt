@@ -9,6 +9,7 @@ use lib.ListN.{length}
 use Rattle.scan.specs.Byte.{byte}
 use Rattle.scan.specs.Chain.{Chain}
 use Rattle.text.specs.Whitespace.{whitespace}
+use Rattle.header.specs.Limits.{headerLimit}
 use Rattle.header.specs.Entry.{bodyOf, key, trimmedLength}
 use Rattle.header.specs.declared.Header.{Header}
 use Rattle.header.specs.declared.Statement.{Statement}
@@ -39,7 +40,7 @@ pub record IsHeader (s : List ℕ) (start : ℕ) (h : Header) : Type 0 where
   pub order : h .left < h .right
   pub body : (k : ℕ) → h .left < k → k < h .right → BodyByte (byte s k)
   pub closing : EndPattern s (h .right) (start + h .length)
-  pub short : h .length ≤ 65536
+  pub short : h .length ≤ headerLimit
 
 -- ---- The statements
 

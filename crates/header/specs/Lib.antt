@@ -5,6 +5,7 @@ pub mod Entry
 pub mod Frame
 pub mod Grammar
 pub mod Hash
+pub mod Limits
 pub mod Lookup
 pub mod Repeats
 pub mod Statements

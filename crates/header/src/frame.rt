@@ -1,5 +1,6 @@
 // The frame of a header: its start pattern, the end of its body, its end pattern.
 use super::Framed;
+use super::HEADER_LIMIT;
 use super::Header;
 use scan::Error;
 use scan::Found;
@@ -154,9 +155,9 @@ pub fn header_at(s: &[u8], start: usize) -> Framed
     if s.len() <= start {
         return refused(3, start);
     }
-    if s.len() - start <= 65536 {
+    if s.len() - start <= HEADER_LIMIT {
         return frame_at(s, start);
     }
-    let end = start + 65536;
+    let end = start + HEADER_LIMIT;
     frame_at(&s[..end], start)
 }

@@ -7,6 +7,9 @@ pub mod statements;
 
 use scan::Error;
 
+// The most bytes of a header (`headerLimit`).
+pub const HEADER_LIMIT: usize = 65536;
+
 // A header that stands at some offset: the offsets of its `{` and `}`, and its length from the first byte of its start
 // pattern to the last of its end pattern.
 pub struct Header {

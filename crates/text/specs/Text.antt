@@ -31,8 +31,11 @@ unfoldable pub textOf : List ℕ → List ℕ
 textOf value = unescapedAfter false (withoutLineBreaks value)
 
 -- "At most 1,023 characters": else error 25.
+abbrev pub textLimit : ℕ
+textLimit = 1023
+
 unfoldable pub shortText : List ℕ → Outcome (List ℕ)
-shortText t = cond (leb (length t) 1023) (ok t) (refused 25 0)
+shortText t = cond (leb (length t) textLimit) (ok t) (refused 25 0)
 
 -- A byte that may stand between `=` and `;`: 1 to 127, no brace and no `;`.
 unfoldable pub valueByte : ℕ → Bool

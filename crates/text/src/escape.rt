@@ -1,4 +1,5 @@
 // Text into value form, and text out of a value. The length is measured first, so that the buffer is untouched in every error.
+use super::TEXT_LIMIT;
 use crate::Written;
 use crate::buffer;
 use crate::value;
@@ -104,7 +105,7 @@ pub fn escape(text: &[u8], out: &mut [u8]) -> Written
     if !all_text_bytes(text) {
         return buffer::failure(24);
     }
-    if text.len() > 1023 {
+    if text.len() > TEXT_LIMIT {
         return buffer::failure(25);
     }
     let n = escaped_length(text) + 2;
@@ -230,7 +231,7 @@ pub fn write_text(value: &[u8], out: &mut [u8]) -> Written
     ensures { λ _. ⌜ now (out .exit) ≡ bufferAfter (shortText (textOf (now (value .entry)))) (now (out .entry)) ⌝ }
 {
     let n = text_length(value);
-    if n > 1023 {
+    if n > TEXT_LIMIT {
         return buffer::failure(25);
     }
     if n > out.len() {

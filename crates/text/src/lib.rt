@@ -10,6 +10,9 @@ pub mod whitespace;
 
 use scan::Error;
 
+// The most characters of a text (`textLimit`).
+pub const TEXT_LIMIT: usize = 1023;
+
 // The answer of a call that writes bytes into a lent buffer: how many.
 pub enum Written {
     Length(usize),
