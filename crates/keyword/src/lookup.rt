@@ -5,7 +5,7 @@ use header::Header;
 use header::lookup::Sought;
 use header::lookup::find_key;
 use header::lookup::value_of;
-use opening::keys::is_edf_key;
+use reading::keys::is_edf_key;
 ghost use mathlib.Core.Path.{_≡_};
 ghost use lib.ListN.{take};
 ghost use Rattle.text.specs.Key.{keyOf};

@@ -1,6 +1,7 @@
 // Finding a block by its number.
 use super::Block;
 use super::Viewed;
+use blocks::FILE_LIMIT;
 use blocks::Opened;
 use blocks::Row;
 use header::Framed;
@@ -58,7 +59,7 @@ pub fn view_row(file: &[u8], first: Row, row: Row) -> Viewed
 pub fn view(file: &[u8], block: usize) -> Viewed
     ensures { λ r. ⌜ viewedOutcome (now (file .entry)) r ≡ viewOf (now (file .entry)) block ⌝ }
 {
-    if 1073741824 < file.len() {
+    if FILE_LIMIT < file.len() {
         return Viewed::Failed(Error {
             code: 1,
             position: 0,

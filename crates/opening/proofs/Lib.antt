@@ -1,12 +1,4 @@
-pub mod BlockSteps
-pub mod CountingLaws
-pub mod EdfKeys
-pub mod EntryLaws
-pub mod FirstLaws
-pub mod IdentitySteps
-pub mod JudgeLaws
-pub mod NumberSteps
 pub mod Searches
+pub mod Standing
 pub mod TableLaws
 pub mod Turns
-pub mod VersionSteps

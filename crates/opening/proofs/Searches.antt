@@ -89,7 +89,7 @@ module _ (expected count : ℕ) (asked : expected ≡ 0 → ⊥) where
 
   pub counted : (count ≡ 0 → ⊥) → eqb (count - 1) expected ≡ countMatches expected count
   unfolding countMatches
-  counted some =
+  counted any =
       rw (ne-eqb expected 0 asked)
       (by-test (eqb (count - 1) expected)
       (λ e. let p : count - 1 ≡ expected = eqb-true (count - 1) expected e in

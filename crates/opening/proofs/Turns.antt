@@ -1,5 +1,5 @@
 -- A turn of the loop that opens a file, on plain values. The loop's rows are an array of which the first `count` count.
-use mathlib.Core.Path.{_≡_, sym, subst}
+use mathlib.Core.Path.{_≡_, sym, ap, subst}
 use mathlib.Core.Bool.{true, false}
 use mathlib.Core.Logic.{_≢_}
 use mathlib.Core.List.{List}
@@ -17,21 +17,23 @@ use Rattle.blocks.specs.Judging.{blockAt}
 use Rattle.blocks.specs.Opening.{ended, countMatches, repeats, openedFrom}
 use Rattle.blocks.specs.declared.Accepted.{Accepted}
 use Rattle.blocks.specs.declared.FileRules.{FileRules}
+use Rattle.blocks.specs.declared.Opened.{Opened}
+use Rattle.blocks.specs.declared.Opened.the-variants.{Blocks, Failed}
 use Rattle.blocks.specs.declared.Row.{Row}
 use Rattle.blocks.proofs.Steps.{step-done, step-count, step-full, step-failed, step-twice, step-on}
-use Rattle.opening.specs.Core.{stepBy, stepOf}
+use Rattle.opening.specs.Core.{stepBy, answerAtEnd, stepOf, told, Few}
 use Rattle.opening.specs.declared.Step.{Step}
-use Rattle.opening.specs.declared.Step.the-variants.{Block, Done, Failed}
+use Rattle.opening.specs.declared.Step.the-variants.{Block, End}
 
 -- ---- A step, with the tests that led to it
 
 pub data StepIs (s : List ℕ) (count at : ℕ) (r : FileRules) : Step → Type 0 where
-  done : ended count at (length s) ≡ true → countMatches (r .expected) count ≡ true → StepIs s count at r Done
-  miscounted : ended count at (length s) ≡ true → countMatches (r .expected) count ≡ false → StepIs s count at r (Failed (errorAt 15 0))
-  full : ended count at (length s) ≡ false → count ≡ 256 → StepIs s count at r (Failed (errorAt 14 at))
+  done : ended count at (length s) ≡ true → countMatches (r .expected) count ≡ true → StepIs s count at r (End (Blocks count))
+  miscounted : ended count at (length s) ≡ true → countMatches (r .expected) count ≡ false → StepIs s count at r (End (Failed (errorAt 15 0)))
+  full : ended count at (length s) ≡ false → count ≡ 256 → StepIs s count at r (End (Failed (errorAt 14 at)))
   block : {a : Accepted} → ended count at (length s) ≡ false → count ≢ 256 → blockAt s r (eqb count 0) at ≡ ok a → StepIs s count at r (Block a)
   broken : {e : Error} → ended count at (length s) ≡ false → count ≢ 256 → blockAt s r (eqb count 0) at ≡ failed e
-      → StepIs s count at r (Failed e)
+      → StepIs s count at r (End (Failed e))
 
 pub step-is : (s : List ℕ) (count at : ℕ) (r : FileRules) → StepIs s count at r (stepOf s count at r)
 unfolding stepOf
@@ -47,23 +49,18 @@ step-is s count at r =
 -- ---- Each way out of a step
 
 module _ (s : List ℕ) (count at : ℕ) (r : FileRules) where
-  pub step-ends : ended count at (length s) ≡ true → countMatches (r .expected) count ≡ true → Done ≡ stepOf s count at r
+  pub step-ends : ended count at (length s) ≡ true → {a : Opened} → a ≡ answerAtEnd (r .expected) count → End a ≡ stepOf s count at r
   unfolding stepOf
-  step-ends e c = rw (e, c)
+  step-ends e q = rw e (ap End q)
 
-  pub step-miscounted : ended count at (length s) ≡ true → countMatches (r .expected) count ≡ false
-      → Failed (errorAt 15 0) ≡ stepOf s count at r
-  unfolding stepOf
-  step-miscounted e c = rw (e, c)
+  module _ (e : ended count at (length s) ≡ false) where
+    pub step-past : count ≡ 256 → {a : Opened} → a ≡ Failed (errorAt 14 at) → End a ≡ stepOf s count at r
+    unfolding stepOf
+    step-past f q = rw (e, eq-eqb count 256 f) (ap End q)
 
-  pub step-past : ended count at (length s) ≡ false → count ≡ 256 → Failed (errorAt 14 at) ≡ stepOf s count at r
-  unfolding stepOf
-  step-past e f = rw (e, eq-eqb count 256 f)
-
-  pub step-by : ended count at (length s) ≡ false → (count ≡ 256 → ⊥) → (x : Outcome Accepted)
-      → x ≡ blockAt s r (eqb count 0) at → stepBy x ≡ stepOf s count at r
-  unfolding stepOf
-  step-by e f x h = rw (e, ne-eqb count 256 f, sym h)
+    pub step-by : (count ≡ 256 → ⊥) → (x : Outcome Accepted) → x ≡ blockAt s r (eqb count 0) at → stepBy x ≡ stepOf s count at r
+    unfolding stepOf
+    step-by f x h = rw (e, ne-eqb count 256 f, sym h)
 
 -- ---- A turn
 
@@ -80,18 +77,17 @@ module _ (s : List ℕ) (rows : List Row) (count at : ℕ) (r : FileRules) (few 
 
   -- What a step makes of it.
   abbrev Turned : Step → Type 0
-  Turned Done = answerFrom s rows count at r ≡ ok (take count rows)
-  Turned (Failed e) = answerFrom s rows count at r ≡ failed e
+  Turned (End a) = (answerFrom s rows count at r ≡ told a rows) × Few a
   Turned (Block a) =
       (repeats (take count rows) (a .row) ≡ true → answerFrom s rows count at r ≡ refused 13 at)
       × (repeats (take count rows) (a .row) ≡ false → answerFrom s rows count at r ≡ answerFrom s (set rows count (a .row)) (count + 1) (a .next) (a .rules))
 
   turned : (x : Step) → StepIs s count at r x → Turned x
-  turned x (done e c) = rw fuel (step-done (256 - count) s (take count rows) at r (rw counted e) (rw counted c))
-  turned x (miscounted e c) = rw fuel (step-count (256 - count) s (take count rows) at r (rw counted e) (rw counted c))
-  turned x (full e f) = rw fuel (step-full (256 - count) s (take count rows) at r (rw counted e) (rw counted f))
+  turned x (done e c) = (rw fuel (step-done (256 - count) s (take count rows) at r (rw counted e) (rw counted c)), few)
+  turned x (miscounted e c) = (rw fuel (step-count (256 - count) s (take count rows) at r (rw counted e) (rw counted c)), tt)
+  turned x (full e f) = (rw fuel (step-full (256 - count) s (take count rows) at r (rw counted e) (rw counted f)), tt)
   turned x (broken e f b) =
-      rw fuel (step-failed (256 - count) s (take count rows) at r (rw counted e) (rw counted f) (rw counted b))
+      (rw fuel (step-failed (256 - count) s (take count rows) at r (rw counted e) (rw counted f) (rw counted b)), tt)
   turned x (block {a = a} e f b) =
       let next : 257 - (count + 1) ≡ 256 - count = omega arith in
       let here : blockAt s r (eqb (length (take count rows)) 0) at ≡ ok a = rw counted b in (
@@ -103,11 +99,8 @@ module _ (s : List ℕ) (rows : List Row) (count at : ℕ) (r : FileRules) (few 
   turn : {x : Step} → stepOf s count at r ≡ x → Turned x
   turn e = subst Turned e (turned (stepOf s count at r) (step-is s count at r))
 
-  pub turn-done : stepOf s count at r ≡ Done → answerFrom s rows count at r ≡ ok (take count rows)
-  turn-done e = turn e
-
-  pub turn-failed : {e : Error} → stepOf s count at r ≡ Failed e → answerFrom s rows count at r ≡ failed e
-  turn-failed e = turn e
+  pub turn-ends : {a : Opened} → stepOf s count at r ≡ End a → (answerFrom s rows count at r ≡ told a rows) × Few a
+  turn-ends e = turn e
 
   pub turn-repeats : {a : Accepted} → stepOf s count at r ≡ Block a → repeats (take count rows) (a .row) ≡ true
       → answerFrom s rows count at r ≡ refused 13 at

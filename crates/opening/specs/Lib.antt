@@ -1,6 +1,2 @@
-pub mod Answers
-pub mod Blocks
 pub mod Core
-pub mod Counting
-pub mod Entries
 pub mod Table

@@ -1,35 +1,34 @@
 // Opening a file: block by block, the rows in an array of this function.
-pub mod block;
 pub mod identity;
-pub mod judge;
-pub mod keys;
 pub mod run;
 pub mod steps;
 pub mod table;
-pub mod values;
 
 use blocks::Accepted;
-use blocks::FileRules;
+use blocks::BLOCK_LIMIT;
 use blocks::Opened;
 use blocks::Row;
-use scan::Error;
 
-// What comes next: a block more, the end of the file, or an error.
+// The row that stands where none is placed yet.
+pub const BLANK: Row = Row {
+    start: 0,
+    header: 0,
+    size: 0,
+    kind: 0,
+    sequence: 0,
+    instance: 0,
+    memory: 0,
+};
+
+// What comes next: a block more, or the answer.
 pub enum Step {
     Block(Accepted),
-    Done,
-    Failed(Error),
+    End(Opened),
 }
 
-// A file that was opened: its rows, of which the answer says how many count.
+// A file that was opened: the answer, and the rows, of which the first `count` are those of its blocks.
 pub struct Opening {
-    pub rows: [Row; 256],
-    pub answer: Opened,
-}
-
-// What a call with a lent table is to do: the rows, of which the first `count` go into the table, and its answer.
-pub struct Plan {
-    pub rows: [Row; 256],
+    pub rows: [Row; BLOCK_LIMIT],
     pub count: usize,
     pub answer: Opened,
 }

@@ -1,47 +1,40 @@
-// The loop over the blocks of a file. Its rows are an array of its own, which no call takes, so none copies it.
+// The loop over the blocks of a file. Its rows are an array of its own, which no call in the loop takes, so none copies it: the search
+// for an identity stands in it.
+use super::BLANK;
 use super::Opening;
 use super::Step;
 use super::identity::same_identity;
 use super::identity::searched;
+use super::steps::failed;
 use super::steps::next_step;
+use super::steps::rows_in;
+use blocks::BLOCK_LIMIT;
+use blocks::DEFAULT_BOUNDARY;
 use blocks::FileRules;
-use blocks::Opened;
-use blocks::Row;
-use scan::Error;
 ghost use Rattle.opening.specs.Core.{Opens};
+
+// The rules before the first header is read.
+const NO_RULES: FileRules = FileRules {
+    kind: 1,
+    boundary: DEFAULT_BOUNDARY,
+    expected: 0,
+};
 
 pub fn opened(file: &[u8]) -> Opening
     ensures { λ r. ⌜ Opens (now (file .entry)) r ⌝ }
 {
-    let blank = Row {
-        start: 0,
-        header: 0,
-        size: 0,
-        kind: 0,
-        sequence: 0,
-        instance: 0,
-        memory: 0,
-    };
-    let mut rows = [blank; 256];
+    let mut rows = [BLANK; BLOCK_LIMIT];
     let mut count = 0;
     let mut at = 0;
-    let mut rules = FileRules {
-        kind: 1,
-        boundary: 512,
-        expected: 0,
-    };
+    let mut rules = NO_RULES;
     loop {
         match next_step(file, count, at, rules) {
-            Step::Done => {
+            Step::End(answer) => {
+                let counted = rows_in(answer);
                 return Opening {
                     rows: rows,
-                    answer: Opened::Blocks(count),
-                };
-            }
-            Step::Failed(e) => {
-                return Opening {
-                    rows: rows,
-                    answer: Opened::Failed(e),
+                    count: counted,
+                    answer: answer,
                 };
             }
             Step::Block(a) => {
@@ -50,21 +43,15 @@ pub fn opened(file: &[u8]) -> Opening
                 let mut i = 0;
                 while i < n {
                     if same_identity(rows[i], row) {
-                        return Opening {
-                            rows: rows,
-                            answer: Opened::Failed(Error {
-                                code: 13,
-                                position: at,
-                            }),
-                        };
+                        return failed(13, at);
                     }
                     i += 1;
                 }
-                let next = a.rules;
+                let given = a.rules;
                 rows[count] = row;
                 count += 1;
                 at = a.next;
-                rules = next;
+                rules = given;
             }
         }
     }

@@ -1,22 +1,26 @@
 // What comes at an offset after so many blocks: the end of the file, one block too many, a block, or an error.
+use super::BLANK;
+use super::Opening;
 use super::Step;
-use super::block::Judged;
-use super::block::block_at;
+use blocks::BLOCK_LIMIT;
 use blocks::FileRules;
+use blocks::Opened;
+use judging::block::Judged;
+use judging::block::block_at;
 use scan::Error;
 ghost use mathlib.Core.Path.{_≡_};
 ghost use Rattle.scan.specs.Outcome.{errorAt};
 ghost use Rattle.blocks.specs.Opening.{ended, countMatches};
-ghost use Rattle.opening.specs.Core.{stepOf};
-ghost use Rattle.opening.specs.declared.Step.the-variants.{Failed};
+ghost use Rattle.blocks.specs.declared.Opened.the-variants.{Failed};
+ghost use Rattle.opening.specs.Core.{answerAtEnd, rowsIn, stepOf, Refuses};
 
-fn at_end(count: usize, at: usize, length: usize) -> bool
-    ensures { λ r. ⌜ r ≡ ended count at length ⌝ }
+fn at_end(count: usize, at: usize, end: usize) -> bool
+    ensures { λ r. ⌜ r ≡ ended count at end ⌝ }
 {
     if count == 0 {
         return false;
     }
-    at == length
+    at == end
 }
 
 fn count_matches(expected: usize, count: usize) -> bool
@@ -31,29 +35,57 @@ fn count_matches(expected: usize, count: usize) -> bool
     count - 1 == expected
 }
 
-fn fail(code: u8, position: usize) -> Step
+fn refusal(code: u8, position: usize) -> Opened
     ensures { λ r. ⌜ r ≡ Failed (errorAt code position) ⌝ }
 {
-    Step::Failed(Error {
+    Opened::Failed(Error {
         code: code,
         position: position,
     })
+}
+
+// A file that is refused. None of its rows counts.
+pub fn failed(code: u8, position: usize) -> Opening
+    ensures { λ r. ⌜ Refuses (errorAt code position) r ⌝ }
+{
+    Opening {
+        rows: [BLANK; BLOCK_LIMIT],
+        count: 0,
+        answer: refusal(code, position),
+    }
+}
+
+// How many rows an answer has: none in an error.
+pub fn rows_in(answer: Opened) -> usize
+    ensures { λ r. ⌜ r ≡ rowsIn answer ⌝ }
+{
+    match answer {
+        Opened::Blocks(n) => n,
+        Opened::Failed(_) => 0,
+    }
+}
+
+fn answer_at_end(expected: usize, count: usize) -> Opened
+    ensures { λ r. ⌜ r ≡ answerAtEnd expected count ⌝ }
+{
+    if count_matches(expected, count) {
+        Opened::Blocks(count)
+    } else {
+        refusal(15, 0)
+    }
 }
 
 pub fn next_step(file: &[u8], count: usize, at: usize, rules: FileRules) -> Step
     ensures { λ r. ⌜ r ≡ stepOf (now (file .entry)) count at rules ⌝ }
 {
     if at_end(count, at, file.len()) {
-        if count_matches(rules.expected, count) {
-            return Step::Done;
-        }
-        return fail(15, 0);
+        return Step::End(answer_at_end(rules.expected, count));
     }
-    if count == 256 {
-        return fail(14, at);
+    if count == BLOCK_LIMIT {
+        return Step::End(refusal(14, at));
     }
     match block_at(file, rules, count == 0, at) {
         Judged::Block(a) => Step::Block(a),
-        Judged::Failed(e) => Step::Failed(e),
+        Judged::Failed(e) => Step::End(Opened::Failed(e)),
     }
 }

@@ -2,12 +2,12 @@
 use mathlib.Core.Path.{_≡_, refl, sym, _∙_}
 use Prim.Native.Nat.{_-_, _≤_, _<_}
 use native.Mathlib.Omega.{arith}
-use lib.ListN.{length, take, drop, length-set}
-use Rattle.blocks.specs.Opening.{identityAmong, opened}
+use lib.ListN.{length, take, drop}
+use Rattle.blocks.specs.Opening.{identityAmong}
 use Rattle.opening.specs.Core.{stepOf}
 use Rattle.opening.specs.declared.Step.the-variants.{Block}
 use Rattle.opening.proofs.Searches.{among-end, among-here, among-on, searched-le, searched-is}
-use Rattle.opening.proofs.Turns.{answerFrom, turn-done, turn-failed, turn-repeats, turn-on, block-before}
+use Rattle.opening.proofs.Standing.{Stands, starts, ends, room, twice, goes-on}
 use borrow.Author.Needs.{needs}
 use Rattle.opening.proofs.run.opened.Statement.{statement}
 use Rattle.opening.proofs.run.opened.Tie as tie
@@ -24,48 +24,35 @@ abbrev μ-loop2 : tie.MeasureT-loop2
 -- ---- The blocks
 
 abbrev Inv-loop : tie.InvT-loop
-Inv-loop file rows₀ count₀ at₀ rules₀ rows count at rules =
-    (count ≤ 256) × (length rows ≡ 256) × (opened file ≡ answerFrom file rows count at rules)
+Inv-loop file rows₀ count₀ at₀ rules₀ rows count at rules = Stands file rows count at rules
 
 abbrev μ-loop : tie.MeasureT-loop
 μ-loop file rows₀ count₀ at₀ rules₀ rows count at rules = 257 - count
 
 loop-holds : tie.Need-loop-holds Inv-loop2 μ-loop2 Inv-loop μ-loop
-unfolding opened
-loop-holds c = (search needs, search needs, refl)
+loop-holds c = starts _ (search needs)
 
 -- A turn that found a block, with fewer than 256 before it.
-found : (c : tie.After-next Inv-loop2 μ-loop2 Inv-loop μ-loop)
+found : (c : tie.After-given Inv-loop2 μ-loop2 Inv-loop μ-loop)
     → stepOf (c .before .before .before .before .before .before .before .before .before .before .before .args .file .now) (c .before .before .before .before .before .before .before .before .before .loop .count) (c .before .before .before .before .before .before .before .before .before .loop .at) (c .before .before .before .before .before .before .before .before .before .loop .rules) ≡ Block (c .before .before .before .before .before .before .a .given .0 .0)
 found c = sym (c .before .before .before .before .before .before .before .before .next-step .ensures) ∙ c .before .before .before .before .before .before .a .given .1
 
-below : (c : tie.After-next Inv-loop2 μ-loop2 Inv-loop μ-loop) → c .before .before .before .before .before .before .before .before .before .loop .count < 256
-below c =
-    let f : c .before .before .before .before .before .before .before .before .before .loop .count ≡ 256 → ⊥ = block-before _ _ _ _ _ (found c) in
-    let g : c .before .before .before .before .before .before .before .before .before .loop .count ≤ 256 = c .before .before .before .before .before .before .before .before .before .loop .inv .0 in omega arith
+below : (c : tie.After-given Inv-loop2 μ-loop2 Inv-loop μ-loop) → c .before .before .before .before .before .before .before .before .before .loop .count < 256
+below c = room _ (c .before .before .before .before .before .before .before .before .before .loop .inv) (found c)
 
 next-step-requires : tie.Need-next-step-requires Inv-loop2 μ-loop2 Inv-loop μ-loop
 next-step-requires c κs = search needs
 
-enum-told : tie.Need-enum-told Inv-loop2 μ-loop2 Inv-loop μ-loop
-enum-told c = search needs
+enum-known-answer : tie.Need-enum-known-answer Inv-loop2 μ-loop2 Inv-loop μ-loop
+enum-known-answer c = search needs
+
+rows-in-requires : tie.Need-rows-in-requires Inv-loop2 μ-loop2 Inv-loop μ-loop
+rows-in-requires c κs = search needs
 
 returns : tie.Need-returns Inv-loop2 μ-loop2 Inv-loop μ-loop
-returns c = record {
-  says = sym (c .before .before .before .loop .inv .2 ∙ turn-done _ _ _ _ _ (c .before .before .before .loop .inv .0) (c .before .before .before .loop .inv .1) (sym (c .before .before .next-step .ensures) ∙ c .enum-told .given .1));
-  few = c .before .before .before .loop .inv .0;
-  whole = c .before .before .before .loop .inv .1;
-}
-
-enum-known-e : tie.Need-enum-known-e Inv-loop2 μ-loop2 Inv-loop μ-loop
-enum-known-e c = search needs
-
-returns-2 : tie.Need-returns-2 Inv-loop2 μ-loop2 Inv-loop μ-loop
-returns-2 c = record {
-  says = sym (c .before .before .before .before .loop .inv .2 ∙ turn-failed _ _ _ _ _ (c .before .before .before .before .loop .inv .0) (c .before .before .before .before .loop .inv .1) (sym (c .before .before .before .next-step .ensures) ∙ c .before .e .given .1));
-  few = tt;
-  whole = c .before .before .before .before .loop .inv .1;
-}
+returns c =
+    let e = ends _ (c .before .before .before .before .before .loop .inv) (sym (c .before .before .before .before .next-step .ensures) ∙ c .before .before .answer .given .1) in
+    record { says = e .0; counted = c .rows-in .ensures; few = e .1; whole = c .before .before .before .before .before .loop .inv .whole }
 
 enum-known-a : tie.Need-enum-known-a Inv-loop2 μ-loop2 Inv-loop μ-loop
 enum-known-a c = search needs
@@ -75,7 +62,7 @@ searched-requires c κs = search needs
 
 loop2-holds : tie.Need-loop2-holds Inv-loop2 μ-loop2 Inv-loop μ-loop
 loop2-holds c =
-    (omega (arith, c .searched .ensures, searched-le (c .before .before .before .a .given .0 .0 .row) (c .before .before .before .before .before .before .loop .count), c .before .before .before .before .before .before .loop .inv .0), omega (arith, c .searched .ensures, searched-le (c .before .before .before .a .given .0 .0 .row) (c .before .before .before .before .before .before .loop .count), c .before .before .before .before .before .before .loop .inv .0, c .before .before .before .before .before .before .loop .inv .1), refl)
+    let l : c .searched .result ≤ 256 = omega (arith, c .searched .ensures, searched-le (c .before .before .before .a .given .0 .0 .row) (c .before .before .before .before .before .before .loop .count), c .before .before .before .before .before .before .loop .inv .few) in (l, omega (arith, l, c .before .before .before .before .before .before .loop .inv .whole), refl)
 
 mul-same-identity : tie.Need-mul-same-identity Inv-loop2 μ-loop2 Inv-loop μ-loop
 mul-same-identity c = search needs
@@ -86,17 +73,16 @@ array-copy-out-same-identity c = omega (arith, c .loop2-test .taken, c .before .
 same-identity-requires : tie.Need-same-identity-requires Inv-loop2 μ-loop2 Inv-loop μ-loop
 same-identity-requires c κs = search needs
 
-returns-3 : tie.Need-returns-3 Inv-loop2 μ-loop2 Inv-loop μ-loop
-returns-3 c = record {
-  says =
-      sym (c .before .before .before .before .before .before .before .before .before .before .before .loop .inv .2
-      ∙ turn-repeats _ _ _ _ _ (c .before .before .before .before .before .before .before .before .before .before .before .loop .inv .0) (c .before .before .before .before .before .before .before .before .before .before .before .loop .inv .1) (sym (c .before .before .before .before .before .before .before .before .before .before .next-step .ensures) ∙ c .before .before .before .before .before .before .before .before .a .given .1)
-      (searched-is _ _ _ _ _ (c .before .before .before .before .before .searched .ensures)
-      (c .before .before .before .before .loop2 .inv .2
-      ∙ among-here _ _ _ _ _ (c .before .before .before .loop2-test .taken) (c .before .before .before .before .loop2 .inv .1) (sym (c .before .same-identity .ensures) ∙ c .if1 .taken))));
-  few = tt;
-  whole = c .before .before .before .before .before .before .before .before .before .before .before .loop .inv .1;
-}
+failed-requires : tie.Need-failed-requires Inv-loop2 μ-loop2 Inv-loop μ-loop
+failed-requires c κs = search needs
+
+returns-2 : tie.Need-returns-2 Inv-loop2 μ-loop2 Inv-loop μ-loop
+returns-2 c =
+    twice _ (c .before .before .before .before .before .before .before .before .before .before .before .before .loop .inv) (sym (c .before .before .before .before .before .before .before .before .before .before .before .next-step .ensures) ∙ c .before .before .before .before .before .before .before .before .before .a .given .1)
+    (searched-is _ _ _ _ _ (c .before .before .before .before .before .before .searched .ensures)
+    (c .before .before .before .before .before .loop2 .inv .2
+    ∙ among-here _ _ _ _ _ (c .before .before .before .before .loop2-test .taken) (c .before .before .before .before .before .loop2 .inv .1) (sym (c .before .before .same-identity .ensures) ∙ c .before .if1 .taken)))
+    _ (c .failed .ensures)
 
 add-i : tie.Need-add-i Inv-loop2 μ-loop2 Inv-loop μ-loop
 add-i c = omega (arith, c .before .before .before .loop2-test .taken, c .before .before .before .before .loop2 .inv .0)
@@ -124,13 +110,9 @@ loop-less : tie.Need-loop-less Inv-loop2 μ-loop2 Inv-loop μ-loop
 loop-less c = omega (arith, below c)
 
 loop-again : tie.Need-loop-again Inv-loop2 μ-loop2 Inv-loop μ-loop
-loop-again c = (
-  omega (arith, below c),
-  simp length-set (c .before .before .before .before .before .before .before .before .before .loop .inv .1),
-  c .before .before .before .before .before .before .before .before .before .loop .inv .2
-      ∙ turn-on _ _ _ _ _ (c .before .before .before .before .before .before .before .before .before .loop .inv .0) (c .before .before .before .before .before .before .before .before .before .loop .inv .1) (found c)
-      (searched-is _ _ _ _ _ (c .before .before .before .searched .ensures) (c .before .before .loop2 .inv .2 ∙ among-end _ _ _ _ (c .before .loop2-test .left))),
-)
+loop-again c =
+    goes-on _ (c .before .before .before .before .before .before .before .before .before .loop .inv) (found c)
+    (searched-is _ _ _ _ _ (c .before .before .before .searched .ensures) (c .before .before .loop2 .inv .2 ∙ among-end _ _ _ _ (c .before .loop2-test .left)))
 
 pub opened-spec : {M : Type 1} → statement M
 opened-spec =
@@ -142,17 +124,17 @@ opened-spec =
     μ-loop
     loop-holds
     next-step-requires
-    enum-told
+    enum-known-answer
+    rows-in-requires
     returns
-    enum-known-e
-    returns-2
     enum-known-a
     searched-requires
     loop2-holds
     mul-same-identity
     array-copy-out-same-identity
     same-identity-requires
-    returns-3
+    failed-requires
+    returns-2
     add-i
     loop2-less
     loop2-again

@@ -1,0 +1,3 @@
+pub mod BlockSteps
+pub mod FirstLaws
+pub mod LengthLaws
