@@ -7,8 +7,9 @@ use lib.ListN.{length}
 use Rattle.scan.specs.Buffer.{over}
 use Rattle.raster.specs.Strided.{patched, place, Inside, Inside2, rowOf, planeOf}
 use Rattle.raster.proofs.Joined.{joined-add}
-use Rattle.elements.proofs.Filling.{joined-same, length-joined, over-part, pieces-done}
-use Rattle.elements.proofs.RowLaws.{length-row}
+use Rattle.raster.proofs.Joined.{joined-same}
+use Rattle.strides.proofs.Filling.{length-joined, over-part, pieces-done}
+use Rattle.strides.proofs.RowLaws.{length-row}
 use Rattle.delivery.proofs.TileLaws.{inside-from, place-from}
 
 module _ (f : List ℕ → List ℕ) (w : ℕ) (keeps : (l : List ℕ) → length l ≡ w → length (f l) ≡ w) (s : List ℕ) (at up1 down1 n1 up2 down2 n2 : ℕ)

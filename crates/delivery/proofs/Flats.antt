@@ -12,9 +12,10 @@ use Rattle.scan.proofs.Cases.{both-true}
 use Rattle.raster.specs.Bytes.{joined}
 use Rattle.raster.specs.Strided.{patched, place, Inside, Inside2, Inside3, rowOf, planeOf, cubeOf}
 use Rattle.raster.specs.declared.stride.Steps.{Steps}
-use Rattle.elements.proofs.Filling.{joined-same, over-part}
-use Rattle.elements.proofs.RowLaws.{length-row}
-use Rattle.elements.proofs.Groups.{row-add}
+use Rattle.raster.proofs.Joined.{joined-same}
+use Rattle.strides.proofs.Filling.{over-part}
+use Rattle.strides.proofs.RowLaws.{length-row}
+use Rattle.strides.proofs.Parts.{row-add}
 use Rattle.delivery.specs.Flat.{flat, flatCube}
 
 -- ---- The test

@@ -1,10 +1,6 @@
 pub mod BandLaws
-pub mod Conversions
 pub mod Flats
-pub mod Limits
 pub mod Planes
-pub mod Signs
 pub mod StoredRows
-pub mod Tables
 pub mod TileCopies
 pub mod TileLaws

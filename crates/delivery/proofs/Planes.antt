@@ -1,39 +1,20 @@
 -- Rows and planes one after another, and the elements of an array that all stand inside the file.
 use mathlib.Core.Path.{_≡_, ap, _∙_}
-use mathlib.Core.Bool.{Bool, true, false, cond}
 use mathlib.Core.List.{List, [], _∷_}
 use Prim.Native.Nat.{ℕ, zero, suc, _*_, _<_}
 use native.Mathlib.Omega.{arith}
 use lib.IntN.{ℤ}
 use lib.ListN.{length, getD, take, drop}
 use Rattle.raster.specs.Element.{elementBytes}
-use Rattle.raster.specs.Strided.{Octets, turned, place, Inside, Inside2, Inside3, rowOf, planeOf, cubeOf, deliveredAt}
+use Rattle.raster.specs.Strided.{Octets, place, Inside, Inside3, rowOf, planeOf, cubeOf, deliveredAt}
 use Rattle.raster.specs.Types.{DataType}
 use Rattle.raster.specs.declared.stride.Steps.{Steps}
-use Rattle.raster.proofs.RoundTrip.{length-turned}
-use Rattle.elements.proofs.Filling.{joined-same, length-joined}
-use Rattle.elements.proofs.RowLaws.{length-element, length-row}
-use Rattle.offsets.specs.Shifting.{shiftedBytes}
-use Rattle.offsets.proofs.Swaps.{length-shifted}
-use Rattle.delivery.specs.Converting.{converted, Converts}
-use Rattle.delivery.specs.declared.conversion.Conversion.{Conversion}
-
--- ---- Lengths
-
-converted-by : (adds : Bool) (c : Conversion) (l : List ℕ) → length l ≡ c .width
-    → length (cond adds (shiftedBytes (c .width) (c .shift) (c .order) (c .asked) l) (turned (c .reverses) l)) ≡ c .width
-converted-by true c l e = length-shifted (c .shift) (c .order) (c .asked) l e
-converted-by false c l e = length-turned (c .reverses) l ∙ e
-
-pub length-converted : (c : Conversion) (l : List ℕ) → length l ≡ c .width → length (converted c l) ≡ c .width
-unfolding converted
-length-converted c l e = converted-by (c .adds) c l e
-
-pub length-rows : (c : Conversion) (s : List ℕ) (at up1 down1 n1 up2 down2 n2 : ℕ)
-    → Inside2 at up1 down1 n1 up2 down2 n2 (c .width) (length s)
-    → (i : ℕ) → i < n2 → length (rowOf (converted c) (c .width) s (place at up2 down2 i) up1 down1 n1) ≡ c .width * n1
-length-rows c s at up1 down1 n1 up2 down2 n2 inside i h =
-    length-row (converted c) (c .width) (length-converted c) s (place at up2 down2 i) up1 down1 n1 (inside i h .1)
+use Rattle.raster.proofs.Joined.{joined-same}
+use Rattle.strides.proofs.Filling.{length-joined}
+use Rattle.strides.proofs.RowLaws.{length-element}
+use Rattle.conversion.proofs.Lengths.{length-rows}
+use Rattle.conversion.specs.Converting.{converted, Converts}
+use Rattle.conversion.specs.declared.conversion.Conversion.{Conversion}
 
 pub length-planes : (c : Conversion) (s : List ℕ) (t : Steps) (n1 n2 n3 : ℕ) → Inside3 t n1 n2 n3 (c .width) (length s)
     → (i : ℕ) → i < n3

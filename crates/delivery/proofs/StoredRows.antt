@@ -12,12 +12,13 @@ use lib.ListN.{take, drop}
 use Rattle.scan.proofs.Cases.{both-true}
 use Rattle.raster.specs.Strided.{turned, place, Inside2, rowOf, planeOf}
 use Rattle.raster.specs.declared.stride.Steps.{Steps}
-use Rattle.elements.proofs.Filling.{joined-same}
-use Rattle.elements.proofs.RowLaws.{flat, ran, runs-inside, either-order}
-use Rattle.offsets.specs.Shifting.{shiftedBytes}
-use Rattle.delivery.specs.Converting.{converted}
+use Rattle.raster.proofs.Joined.{joined-same}
+use Rattle.elements.proofs.RunLaws.{flat, ran, runs-inside}
+use Rattle.elements.proofs.Ways.{either-order}
+use Rattle.shift.specs.Shifting.{shiftedBytes}
+use Rattle.conversion.specs.Converting.{converted}
 use Rattle.delivery.specs.Flat.{asStored}
-use Rattle.delivery.specs.declared.conversion.Conversion.{Conversion}
+use Rattle.conversion.specs.declared.conversion.Conversion.{Conversion}
 
 -- Nothing is reversed, or each element is one byte.
 order-kept : (back : Bool) (w : ℕ) → not back || eqb w 1 ≡ true → (back ≡ false) ⊎ (w ≡ 1)

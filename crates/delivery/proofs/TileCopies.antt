@@ -10,8 +10,9 @@ use lib.ListN.{length, take, drop, length-take, length-drop, take-append-drop}
 use lib.Seq.{take-at, drop-drop, take-append-le, drop-append-le}
 use Rattle.raster.specs.Strided.{turned, patched, place, Inside, Inside2, rowOf, planeOf}
 use Rattle.raster.specs.declared.stride.Steps.{Steps}
-use Rattle.elements.proofs.Filling.{joined-same, length-joined, mul-room}
-use Rattle.elements.proofs.RowLaws.{length-element, length-row}
+use Rattle.raster.proofs.Joined.{joined-same}
+use Rattle.strides.proofs.Filling.{length-joined, mul-room}
+use Rattle.strides.proofs.RowLaws.{length-element, length-row}
 use Rattle.delivery.specs.Tiles.{rowAt, tileRow, OneWay}
 use Rattle.delivery.proofs.TileLaws.{row-is}
 

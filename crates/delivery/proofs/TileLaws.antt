@@ -11,8 +11,9 @@ use Rattle.raster.specs.Bytes.{joined}
 use Rattle.raster.specs.Strided.{patched, place, Inside, Inside2, rowOf, planeOf}
 use Rattle.raster.specs.declared.stride.Steps.{Steps}
 use Rattle.raster.proofs.Joined.{joined-add, joined-list}
-use Rattle.elements.proofs.Filling.{joined-same, length-joined, over-part, piece-more, pieces-done, mul-room}
-use Rattle.elements.proofs.RowLaws.{length-row}
+use Rattle.raster.proofs.Joined.{joined-same}
+use Rattle.strides.proofs.Filling.{length-joined, over-part, piece-more, pieces-done, mul-room}
+use Rattle.strides.proofs.RowLaws.{length-row}
 use Rattle.delivery.specs.Tiles.{rowAt, tiled, tileRow}
 
 -- Of n elements of w bytes, k from index m on.

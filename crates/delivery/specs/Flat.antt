@@ -3,7 +3,7 @@ use mathlib.Core.Bool.{Bool, not, _&&_, _||_}
 use Prim.Native.Nat.{ℕ, _*_}
 use lib.Dec.{eqb}
 use Rattle.raster.specs.declared.stride.Steps.{Steps}
-use Rattle.delivery.specs.declared.conversion.Conversion.{Conversion}
+use Rattle.conversion.specs.declared.conversion.Conversion.{Conversion}
 
 -- Rows of n elements of w bytes stand one after another.
 unfoldable pub flat : ℕ → ℕ → Steps → Bool

@@ -1,21 +1,21 @@
 // The elements of an array in the order of their indices.
-use crate::conversion::Conversion;
-use crate::conversion::conversion_of;
-use crate::rows::row;
-use crate::rows::rows;
 use crate::runs::are_runs;
 use crate::runs::runs;
 use crate::tiles::are_quicker;
 use crate::tiles::bands;
-use elements::rows::spot;
+use conversion::conversion::Conversion;
+use conversion::conversion::conversion_of;
+use conversion::rows::row;
+use conversion::rows::rows;
 use raster::stride::Steps;
+use strides::places::spot;
 ghost use mathlib.Core.Path.{_≡_};
 ghost use Prim.Native.Nat.{_*_, _^_, _<_, _≤_};
 ghost use lib.ListN.{length};
 ghost use Rattle.scan.specs.Buffer.{over};
 ghost use Rattle.raster.specs.Strided.{Inside2, Inside3, Width, planeOf, cubeOf, deliveredAt};
 ghost use Rattle.raster.specs.Types.{typeOf};
-ghost use Rattle.delivery.specs.Converting.{converted};
+ghost use Rattle.conversion.specs.Converting.{converted};
 ghost use Rattle.delivery.specs.Flat.{flat, flatCube};
 
 // Whether the rows of a plane stand one after another.

@@ -1,8 +1,8 @@
 // Planes whose rows are delivered as they stand: each row is a run of bytes.
-use crate::conversion::Conversion;
-use elements::rows::spot;
+use conversion::conversion::Conversion;
 use elements::runs::run;
 use raster::stride::Steps;
+use strides::places::spot;
 ghost use mathlib.Core.Path.{_≡_};
 ghost use mathlib.Core.Bool.{false};
 ghost use Prim.Native.Nat.{_*_};

@@ -1,16 +1,16 @@
 // Planes tile by tile. Where index 1 is not the fastest in the file, the elements of a row stand in as many cache lines, and
 // each line holds elements of the next rows too. Of a tile, all lines are used while they are in the cache.
-use crate::conversion::Conversion;
-use crate::rows::rows;
+use conversion::conversion::Conversion;
+use conversion::rows::rows;
 use elements::rows::kept;
-use elements::rows::spot;
 use raster::stride::Steps;
+use strides::places::spot;
 ghost use mathlib.Core.Path.{_≡_};
 ghost use mathlib.Core.Bool.{true, false};
 ghost use Prim.Native.Nat.{ℕ, _+_, _*_, _<_, _≤_};
 ghost use lib.ListN.{length};
 ghost use Rattle.raster.specs.Strided.{Inside2, Width, turned, rowOf, planeOf};
-ghost use Rattle.delivery.specs.Converting.{converted};
+ghost use Rattle.conversion.specs.Converting.{converted};
 ghost use Rattle.delivery.specs.Tiles.{tiled, tileRow, OneWay};
 
 // Whether rows of n1 elements are slow, where the elements of a row are `slow` bytes apart and those of a column `fast`: a line

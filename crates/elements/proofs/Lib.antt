@@ -1,4 +1,3 @@
-pub mod Filling
-pub mod RowLaws
-pub mod Groups
-pub mod BackwardLaws
+pub mod RunLaws
+pub mod RunGroups
+pub mod Ways

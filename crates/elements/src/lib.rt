@@ -1,5 +1,3 @@
-// The elements of an array, out of the file and into a buffer: at any stride, in either byte order, with an offset.
-pub mod backward;
-pub mod octets;
+// Rows of elements that are only moved, at any width and stride, in either byte order.
 pub mod rows;
 pub mod runs;

@@ -1,11 +1,11 @@
 // Runs: elements that stand one after another. As they stand they go 65,536 bytes a turn, and reversed sixteen; what is left
 // of those goes one element a turn.
-use crate::octets::get16;
-use crate::octets::put16;
-use crate::octets::reverse_each2;
-use crate::octets::reverse_each4;
-use crate::rows::reversed2;
-use crate::rows::reversed4;
+use groups::moving::get16;
+use groups::moving::put16;
+use groups::orders::reverse_each2;
+use groups::orders::reverse_each4;
+use strides::reversed::reversed2;
+use strides::reversed::reversed4;
 ghost use mathlib.Core.Path.{_≡_};
 ghost use mathlib.Core.Bool.{true};
 ghost use Prim.Native.Nat.{_-_, _*_, _<_, _≤_};

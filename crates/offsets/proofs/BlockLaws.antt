@@ -13,11 +13,12 @@ use Rattle.scan.specs.Buffer.{over}
 use Rattle.raster.specs.Bytes.{joined, numberOf, bytesOf}
 use Rattle.raster.specs.Strided.{turned, patched, place, Inside, Width, rowOf}
 use Rattle.raster.proofs.RoundTrip.{number-turned, bytes-turned}
-use Rattle.elements.proofs.Filling.{joined-same, length-joined, over-part, mul-room}
-use Rattle.elements.proofs.RowLaws.{length-element, length-row}
-use Rattle.elements.proofs.Groups.{strided-add, rest-inside}
-use Rattle.offsets.specs.Shifting.{Short, shiftBy, shiftedBytes}
-use Rattle.offsets.specs.declared.shift.Shift.{Shift}
+use Rattle.raster.proofs.Joined.{joined-same}
+use Rattle.strides.proofs.Filling.{length-joined, over-part, mul-room}
+use Rattle.strides.proofs.RowLaws.{length-element, length-row}
+use Rattle.strides.proofs.Parts.{strided-add, rest-inside}
+use Rattle.shift.specs.Shifting.{Short, shiftBy, shiftedBytes}
+use Rattle.shift.specs.declared.shift.Shift.{Shift}
 
 -- ---- The widths
 

@@ -1,5 +1,1 @@
 pub mod BlockLaws
-pub mod Inverting
-pub mod Scaling
-pub mod Sums
-pub mod Swaps

@@ -1,63 +1,25 @@
 // Rows of elements to which an offset is added.
 use crate::blocks::are_quicker;
 use crate::blocks::blocks;
-use crate::numbers::bytes2;
-use crate::numbers::bytes4;
-use crate::numbers::bytes8;
-use crate::numbers::low2;
-use crate::numbers::low4;
-use crate::numbers::low8;
-use crate::shift::Shift;
-use crate::shift::converted;
-use crate::shift::shifted_u8;
-use crate::shift::shifted_u16;
-use elements::octets::get1;
-use elements::octets::get2;
-use elements::octets::get4;
-use elements::octets::get8;
-use elements::octets::put1;
-use elements::octets::put2;
-use elements::octets::put4;
-use elements::octets::put8;
-use elements::octets::reverse2;
-use elements::rows::spot;
+use octets::reading::get1;
+use octets::reading::get2;
+use octets::reading::get4;
+use octets::reading::get8;
+use octets::writing::put1;
+use octets::writing::put2;
+use octets::writing::put4;
+use octets::writing::put8;
+use shift::element::add1;
+use shift::element::add2;
+use shift::element::add4;
+use shift::element::add8;
+use shift::shift::Shift;
+use strides::places::spot;
 ghost use mathlib.Core.Path.{_≡_};
 ghost use Prim.Native.Nat.{_*_};
-ghost use lib.Dec.{eqb};
 ghost use lib.ListN.{length};
-ghost use Rattle.raster.specs.Strided.{Inside, Width, rowOf, turned};
-ghost use Rattle.offsets.specs.Shifting.{shiftedBytes};
-
-// `order` and `asked` are for the contract alone.
-pub fn add1(b: [u8; 1], order: u8, asked: u8, s: Shift) -> [u8; 1]
-    ensures { λ r. ⌜ r ≡ shiftedBytes 1 s order asked b ⌝ }
-{
-    [shifted_u8(b[0], s)]
-}
-
-fn turn2(b: [u8; 2], order: u8) -> [u8; 2]
-    ensures { λ r. ⌜ r ≡ turned (eqb order 1) b ⌝ }
-{
-    if order == 1 { reverse2(b) } else { b }
-}
-
-pub fn add2(b: [u8; 2], order: u8, asked: u8, s: Shift) -> [u8; 2]
-    ensures { λ r. ⌜ r ≡ shiftedBytes 2 s order asked b ⌝ }
-{
-    turn2(bytes2(shifted_u16(low2(turn2(b, order)), s)), asked)
-}
-
-fn add4(b: [u8; 4], order: u8, asked: u8, s: Shift) -> [u8; 4]
-    ensures { λ r. ⌜ r ≡ shiftedBytes 4 s order asked b ⌝ }
-{
-    bytes4(converted(low4(b), 4294967296, order, asked, s))
-}
-
-fn add8(b: [u8; 8], order: u8, asked: u8, s: Shift) -> [u8; 8]
-    ensures { λ r. ⌜ r ≡ shiftedBytes 8 s order asked b ⌝ }
-{
-    bytes8(converted(low8(b), 1, order, asked, s))
-}
+ghost use Rattle.raster.specs.Strided.{Inside, Width, rowOf};
+ghost use Rattle.shift.specs.Shifting.{shiftedBytes};
 
 fn added1(
     src: &[u8],

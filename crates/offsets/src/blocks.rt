@@ -1,27 +1,25 @@
 // Rows of elements of one, two or four bytes, 1,024 bytes a turn: into a local array, one after another with the low byte first;
 // the offset added there, at a stride that the compiler knows, so that it takes several at once; and out in the order asked for.
-use crate::adding::add1;
-use crate::adding::add2;
-use crate::numbers::bytes4_u32;
-use crate::numbers::low4_u32;
-use crate::shift::Shift;
-use crate::shift::shifted_u32;
-use elements::octets::get1;
-use elements::octets::get2;
-use elements::octets::get4;
-use elements::octets::put1;
-use elements::octets::put2;
-use elements::octets::put4;
 use elements::rows::kept;
 use elements::rows::reversed;
-use elements::rows::spot;
+use octets::reading::get1;
+use octets::reading::get2;
+use octets::reading::get4;
+use octets::writing::put1;
+use octets::writing::put2;
+use octets::writing::put4;
+use shift::element::add1;
+use shift::element::add2;
+use shift::element::low_add4;
+use shift::shift::Shift;
+use strides::places::spot;
 ghost use mathlib.Core.Path.{_≡_};
 ghost use mathlib.Core.Bool.{true};
 ghost use Prim.Native.Nat.{_*_, _<_, _≤_};
 ghost use lib.Dec.{eqb};
 ghost use lib.ListN.{length};
 ghost use Rattle.raster.specs.Strided.{Inside, turned, rowOf};
-ghost use Rattle.offsets.specs.Shifting.{Short, shiftedBytes};
+ghost use Rattle.shift.specs.Shifting.{Short, shiftedBytes};
 
 // Whether blocks are quicker than one element a turn: not for rows of less than 512 bytes, nor where the bytes of elements of
 // four would be reversed twice.
@@ -43,13 +41,6 @@ pub fn are_quicker(w: usize, n: usize, order: u8, asked: u8) -> bool
         return 128 <= n;
     }
     false
-}
-
-// As a number of 32 bits: quicker here than at the high end of 64, and slower by half at a stride that the compiler does not know.
-fn low_add4(b: [u8; 4], s: Shift) -> [u8; 4]
-    ensures { λ r. ⌜ r ≡ shiftedBytes 4 s 2 2 b ⌝ }
-{
-    bytes4_u32(shifted_u32(low4_u32(b), s))
 }
 
 // Elements that stand one after another, stored and asked for with the low byte first.

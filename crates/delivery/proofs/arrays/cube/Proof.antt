@@ -4,10 +4,10 @@ use Prim.Native.Nat.{_*_, _-_, _≤_}
 use native.Mathlib.Omega.{arith}
 use borrow.Author.Needs.{needs}
 use lib.ListN.{length, length-take}
-use Rattle.delivery.specs.Converting.{converted}
+use Rattle.conversion.specs.Converting.{converted}
 use Rattle.delivery.proofs.Flats.{cube-inside, cube-written, cube-bytes, cube-fits}
-use Rattle.delivery.proofs.Limits.{width-some}
-use Rattle.delivery.proofs.Planes.{length-converted}
+use Rattle.raster.proofs.Tables.{width-some}
+use Rattle.conversion.proofs.Lengths.{length-converted}
 use Rattle.delivery.proofs.arrays.cube.Statement.{statement}
 use Rattle.delivery.proofs.arrays.cube.Tie as tie
 

@@ -10,7 +10,7 @@ use mir.ValLaws.{toZ-ofZ}
 use Rattle.scan.specs.Buffer.{over}
 use Rattle.raster.specs.Strided.{Inside3}
 use Rattle.raster.specs.Types.{typeOf}
-use Rattle.delivery.specs.Converting.{Converts}
+use Rattle.conversion.specs.Converting.{Converts}
 use Rattle.delivery.proofs.Planes.{octets-all, cube-delivered}
 use Rattle.delivery.proofs.arrays.deliver.Statement.{statement}
 use Rattle.delivery.proofs.arrays.deliver.Tie as tie

@@ -2,9 +2,9 @@
 use mathlib.Core.Path.{sym, _∙_}
 use native.Mathlib.Omega.{arith}
 use lib.ListN.{length}
-use Rattle.delivery.specs.Converting.{converted}
+use Rattle.conversion.specs.Converting.{converted}
 use Rattle.delivery.proofs.Flats.{flat-inside, flat-row, fewer}
-use Rattle.delivery.proofs.Limits.{width-some}
+use Rattle.raster.proofs.Tables.{width-some}
 use Rattle.delivery.proofs.StoredRows.{stored-inside, plane-stored}
 use borrow.Author.Needs.{needs}
 use Rattle.delivery.proofs.arrays.plane.Statement.{statement}

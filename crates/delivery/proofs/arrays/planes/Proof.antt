@@ -8,8 +8,8 @@ use lib.ListN.{length, length-take, length-drop}
 use Rattle.scan.specs.Buffer.{over}
 use Rattle.raster.specs.Bytes.{joined}
 use Rattle.raster.specs.Strided.{place, Inside2, planeOf, cubeOf}
-use Rattle.elements.proofs.Filling.{piece-more, pieces-over, mul-room, mul-next}
-use Rattle.delivery.specs.Converting.{converted}
+use Rattle.strides.proofs.Filling.{piece-more, pieces-over, mul-room, mul-next}
+use Rattle.conversion.specs.Converting.{converted}
 use Rattle.delivery.proofs.Planes.{length-planes}
 use Rattle.delivery.proofs.arrays.planes.Statement.{statement}
 use Rattle.delivery.proofs.arrays.planes.Tie as tie

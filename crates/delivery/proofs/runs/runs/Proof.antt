@@ -1,5 +1,5 @@
 -- `delivery::runs::runs` meets its contract. The invariant: the first i runs are written.
-use mathlib.Core.Path.{_≡_, refl, sym, ap, subst, _∙_}
+use mathlib.Core.Path.{_≡_, refl, sym, ap, _∙_}
 use mathlib.Core.Bool.{false}
 use mathlib.Core.List.{List}
 use Prim.Native.Nat.{ℕ, _+_, _*_, _-_, _<_, _≤_}
@@ -9,9 +9,10 @@ use borrow.Author.Needs.{needs}
 use lib.ListN.{length, take, drop, length-take, length-drop}
 use Rattle.scan.specs.Buffer.{over}
 use Rattle.raster.specs.Bytes.{joined}
-use Rattle.raster.specs.Strided.{turned, place, Inside, rowOf, planeOf}
-use Rattle.elements.proofs.Filling.{piece-more, pieces-done, mul-room, mul-next}
-use Rattle.elements.proofs.RowLaws.{keeps, length-row, runs-inside, ran}
+use Rattle.raster.specs.Strided.{turned, place, rowOf, planeOf}
+use Rattle.strides.proofs.Filling.{piece-more, pieces-done, mul-room, mul-next}
+use Rattle.strides.proofs.RowLaws.{keeps, length-row}
+use Rattle.elements.proofs.RunLaws.{runs-inside, ran}
 use Rattle.delivery.proofs.runs.runs.Statement.{statement}
 use Rattle.delivery.proofs.runs.runs.Tie as tie
 

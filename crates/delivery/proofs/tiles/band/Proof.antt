@@ -5,9 +5,9 @@ use native.Mathlib.Omega.{arith}
 use borrow.Author.Needs.{needs}
 use lib.ListN.{length}
 use Rattle.raster.specs.Bytes.{joined}
-use Rattle.delivery.specs.Converting.{converted}
+use Rattle.conversion.specs.Converting.{converted}
 use Rattle.delivery.proofs.TileLaws.{begun, tiles-none, tiles-more, tiles-done}
-use Rattle.delivery.proofs.Planes.{length-converted}
+use Rattle.conversion.proofs.Lengths.{length-converted}
 use Rattle.delivery.proofs.tiles.band.Statement.{statement}
 use Rattle.delivery.proofs.tiles.band.Tie as tie
 

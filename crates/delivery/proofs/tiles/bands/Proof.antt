@@ -8,9 +8,9 @@ use lib.ListN.{length, length-take, length-drop}
 use Rattle.scan.specs.Buffer.{over}
 use Rattle.raster.specs.Bytes.{joined}
 use Rattle.raster.specs.Strided.{Inside2, planeOf}
-use Rattle.elements.proofs.Filling.{mul-room}
-use Rattle.delivery.specs.Converting.{converted}
-use Rattle.delivery.proofs.Planes.{length-converted}
+use Rattle.strides.proofs.Filling.{mul-room}
+use Rattle.conversion.specs.Converting.{converted}
+use Rattle.conversion.proofs.Lengths.{length-converted}
 use Rattle.delivery.proofs.BandLaws.{band-inside, bands-more, bands-done}
 use Rattle.delivery.proofs.TileLaws.{within}
 use Rattle.delivery.proofs.tiles.bands.Statement.{statement}

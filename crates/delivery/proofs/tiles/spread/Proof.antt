@@ -9,8 +9,8 @@ use lib.ListN.{length, length-take, length-drop}
 use Rattle.scan.specs.Buffer.{over}
 use Rattle.raster.specs.Bytes.{joined}
 use Rattle.raster.specs.Strided.{turned, Inside, rowOf}
-use Rattle.elements.proofs.Filling.{mul-room}
-use Rattle.elements.proofs.RowLaws.{keeps, length-row}
+use Rattle.strides.proofs.Filling.{mul-room}
+use Rattle.strides.proofs.RowLaws.{keeps, length-row}
 use Rattle.delivery.specs.Tiles.{tiled}
 use Rattle.delivery.proofs.TileCopies.{copy-inside}
 use Rattle.delivery.proofs.TileLaws.{within, tile-more, tile-done}

@@ -8,8 +8,8 @@ use borrow.Author.Needs.{needs}
 use borrow.Rule.Slice.PartMut.{putMid, same-len-mid}
 use lib.ListN.{length, take, drop, replicate, length-take, length-replicate}
 use Rattle.raster.specs.Strided.{Inside2, planeOf}
-use Rattle.delivery.specs.Converting.{converted}
-use Rattle.delivery.proofs.Planes.{length-converted}
+use Rattle.conversion.specs.Converting.{converted}
+use Rattle.conversion.proofs.Lengths.{length-converted}
 use Rattle.delivery.proofs.TileCopies.{first-row, columns-inside, front-is, tile-rows}
 use Rattle.delivery.proofs.TileLaws.{tiled-same}
 use Rattle.delivery.proofs.tiles.tile.Statement.{statement}

@@ -5,7 +5,7 @@ use Prim.Native.Nat.{ℕ, _*_, _/_, _<_, _≤_}
 use native.Mathlib.Nat.{mul-div-le, mul-le-mul-left}
 use native.Mathlib.Omega.{arith}
 use Rattle.raster.specs.Strided.{Width}
-use Rattle.delivery.proofs.Limits.{width-some}
+use Rattle.raster.proofs.Tables.{width-some}
 use Rattle.delivery.proofs.tiles.tile_height.Statement.{statement}
 use Rattle.delivery.proofs.tiles.tile_height.Tie as tie
 

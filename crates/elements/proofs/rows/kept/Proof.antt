@@ -3,8 +3,9 @@ use mathlib.Core.Bool.{false}
 use borrow.Author.Needs.{needs}
 use lib.ListN.{length}
 use Rattle.raster.specs.Strided.{turned}
-use Rattle.elements.proofs.RowLaws.{asked, gave, width-one, runs-inside, ran}
-use Rattle.elements.proofs.BackwardLaws.{asked-stride, gave-stride}
+use Rattle.strides.proofs.RowLaws.{asked, gave, width-one}
+use Rattle.elements.proofs.RunLaws.{runs-inside, ran}
+use Rattle.elements.proofs.Ways.{asked-stride, gave-stride}
 use Rattle.elements.proofs.rows.kept.Statement.{statement}
 use Rattle.elements.proofs.rows.kept.Tie as tie
 

@@ -4,8 +4,9 @@ use mathlib.Core.Bool.{true}
 use borrow.Author.Needs.{needs}
 use lib.ListN.{length}
 use Rattle.raster.specs.Strided.{turned}
-use Rattle.elements.proofs.RowLaws.{asked, gave, asked-run, gave-run, width-one, either-order}
-use Rattle.elements.proofs.BackwardLaws.{asked-stride, gave-stride}
+use Rattle.strides.proofs.RowLaws.{asked, gave, width-one}
+use Rattle.elements.proofs.Ways.{asked-run, gave-run, either-order}
+use Rattle.elements.proofs.Ways.{asked-stride, gave-stride}
 use Rattle.elements.proofs.rows.reversed.Statement.{statement}
 use Rattle.elements.proofs.rows.reversed.Tie as tie
 

@@ -1,11 +1,9 @@
 -- `elements::runs::block` meets its contract: the array has the bytes.
-use mathlib.Core.Path.{_∙_}
 use Prim.Native.Nat.{ℕ, _-_}
-use native.Mathlib.Omega.{arith}
 use borrow.Author.Needs.{needs}
 use borrow.Rule.Slice.PartMut.{same-len-mid}
-use lib.ListN.{length, replicate, length-replicate}
-use Rattle.elements.proofs.RowLaws.{through}
+use lib.ListN.{length, replicate}
+use Rattle.elements.proofs.RunLaws.{array-room, array-still, through}
 use Rattle.elements.proofs.runs.block.Statement.{statement}
 use Rattle.elements.proofs.runs.block.Tie as tie
 
@@ -16,7 +14,7 @@ part-held-start : tie.Need-part-held-start
 part-held-start c = search needs
 
 part-held-end : tie.Need-part-held-end
-part-held-end c = search needs
+part-held-end c = array-room 65536 _ (c .before .before .pre .1)
 
 bytes-requires : tie.Need-bytes-requires
 bytes-requires c κs = search needs
@@ -33,11 +31,7 @@ part-bytes-end c =
     let b = c .before in
     let s = b .before .before .before .before .before in
     let e = length (s .args .out .now) in
-    omega (
-      arith,
-      s .pre .1,
-      same-len-mid 0 (e - 0) (replicate {A = ℕ} 65536 0) (b .before .bytes .last .1 .1 .0) (b .held2 .given) ∙ length-replicate {A = ℕ} 65536 0,
-    )
+    array-still 65536 e _ (s .pre .1) (same-len-mid 0 (e - 0) (replicate {A = ℕ} 65536 0) (b .before .bytes .last .1 .1 .0) (b .held2 .given))
 
 bytes-requires-2 : tie.Need-bytes-requires-2
 bytes-requires-2 c κs = search needs
@@ -51,7 +45,7 @@ returns c =
     let h = b .before .before .before .before .before in
     let s = h .before .before .before .before in
     let a = s .args in
-    through (a .src .now) (a .at) (length (a .out .now)) (replicate {A = ℕ} 65536 0) _ _ (omega (arith, s .pre .1, length-replicate {A = ℕ} 65536 0)) (s .pre .0) (h .bytes .ensures)
+    through (a .src .now) (a .at) (length (a .out .now)) (replicate {A = ℕ} 65536 0) _ _ (array-room 65536 _ (s .pre .1)) (s .pre .0) (h .bytes .ensures)
     (b .bytes2 .ensures)
 
 pub block-spec : {M : Type 1} → statement M

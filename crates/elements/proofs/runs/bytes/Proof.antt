@@ -5,7 +5,7 @@ use native.Mathlib.Omega.{arith}
 use borrow.Author.Needs.{needs}
 use lib.ListN.{length, take, drop, length-set}
 use Rattle.scan.specs.Buffer.{over}
-use Rattle.elements.proofs.RowLaws.{run-more, run-done}
+use Rattle.elements.proofs.RunLaws.{run-more, run-done}
 use Rattle.elements.proofs.runs.bytes.Statement.{statement}
 use Rattle.elements.proofs.runs.bytes.Tie as tie
 

@@ -9,8 +9,8 @@ use lib.ListN.{length}
 use Rattle.scan.specs.Buffer.{over}
 use Rattle.raster.specs.Bytes.{joined}
 use Rattle.raster.specs.Strided.{turned, rowOf}
-use Rattle.elements.proofs.RowLaws.{keeps}
-use Rattle.elements.proofs.Groups.{group-more, groups-done}
+use Rattle.strides.proofs.RowLaws.{keeps}
+use Rattle.elements.proofs.RunGroups.{group-more, groups-done}
 use Rattle.elements.proofs.runs.reversed_groups4.Statement.{statement}
 use Rattle.elements.proofs.runs.reversed_groups4.Tie as tie
 

@@ -4,8 +4,8 @@ use Prim.Native.Nat.{_*_, _/_}
 use native.Mathlib.Omega.{arith}
 use borrow.Author.Needs.{needs}
 use Rattle.raster.specs.Strided.{turned}
-use Rattle.elements.proofs.RowLaws.{keeps}
-use Rattle.elements.proofs.Groups.{row-whole}
+use Rattle.strides.proofs.RowLaws.{keeps}
+use Rattle.elements.proofs.RunGroups.{row-whole}
 use Rattle.elements.proofs.runs.reversed_run2.Statement.{statement}
 use Rattle.elements.proofs.runs.reversed_run2.Tie as tie
 

@@ -5,7 +5,7 @@ use native.Mathlib.Omega.{arith}
 use borrow.Author.Needs.{needs}
 use lib.ListN.{length, take, drop, length-take, length-drop}
 use Rattle.scan.specs.Buffer.{over}
-use Rattle.elements.proofs.RowLaws.{block-more, run-done}
+use Rattle.elements.proofs.RunLaws.{block-more, run-done}
 use Rattle.elements.proofs.runs.run.Statement.{statement}
 use Rattle.elements.proofs.runs.run.Tie as tie
 

@@ -7,9 +7,9 @@ use lib.ListN.{length}
 use Rattle.scan.specs.Buffer.{over}
 use Rattle.raster.specs.Bytes.{joined}
 use Rattle.raster.specs.Strided.{rowOf}
-use Rattle.elements.proofs.RowLaws.{row-more, row-done}
-use Rattle.offsets.specs.Shifting.{shiftedBytes}
-use Rattle.offsets.proofs.Swaps.{length-shifted}
+use Rattle.strides.proofs.RowLaws.{row-more, row-done}
+use Rattle.shift.specs.Shifting.{shiftedBytes}
+use Rattle.shift.proofs.Swaps.{length-shifted}
 use Rattle.offsets.proofs.adding.added2.Statement.{statement}
 use Rattle.offsets.proofs.adding.added2.Tie as tie
 

@@ -4,8 +4,8 @@ use Prim.Native.Nat.{ℕ}
 use borrow.Author.Needs.{needs}
 use lib.ListN.{length}
 use Rattle.raster.specs.Strided.{rowOf}
-use Rattle.elements.proofs.RowLaws.{asked, width-one}
-use Rattle.offsets.specs.Shifting.{shiftedBytes}
+use Rattle.strides.proofs.RowLaws.{asked, width-one}
+use Rattle.shift.specs.Shifting.{shiftedBytes}
 use Rattle.offsets.proofs.adding.strided.Statement.{statement}
 use Rattle.offsets.proofs.adding.strided.Tie as tie
 

@@ -7,8 +7,8 @@ use borrow.Rule.Slice.PartMut.{putMid, same-len-mid}
 use lib.Dec.{eqb}
 use lib.ListN.{length, replicate, length-replicate}
 use Rattle.raster.specs.Strided.{turned}
-use Rattle.elements.proofs.RowLaws.{keeps}
-use Rattle.offsets.specs.Shifting.{shiftedBytes}
+use Rattle.strides.proofs.RowLaws.{keeps}
+use Rattle.shift.specs.Shifting.{shiftedBytes}
 use Rattle.offsets.proofs.BlockLaws.{stored, front-length, row-same, by-way}
 use Rattle.offsets.proofs.blocks.block.Statement.{statement}
 use Rattle.offsets.proofs.blocks.block.Tie as tie

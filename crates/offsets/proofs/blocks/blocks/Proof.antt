@@ -7,10 +7,10 @@ use lib.ListN.{length}
 use Rattle.scan.specs.Buffer.{over}
 use Rattle.raster.specs.Bytes.{joined}
 use Rattle.raster.specs.Strided.{rowOf}
-use Rattle.elements.proofs.RowLaws.{row-done}
-use Rattle.offsets.specs.Shifting.{shiftedBytes}
+use Rattle.strides.proofs.RowLaws.{row-done}
+use Rattle.shift.specs.Shifting.{shiftedBytes}
 use Rattle.offsets.proofs.BlockLaws.{covers, part-length, block-inside, block-more}
-use Rattle.offsets.proofs.Swaps.{length-shifted}
+use Rattle.shift.proofs.Swaps.{length-shifted}
 use Rattle.offsets.proofs.blocks.blocks.Statement.{statement}
 use Rattle.offsets.proofs.blocks.blocks.Tie as tie
 

@@ -4,7 +4,7 @@ use Prim.Native.Nat.{ℕ, _*_}
 use borrow.Author.Needs.{needs}
 use lib.ListN.{length}
 use Rattle.raster.specs.Strided.{rowOf}
-use Rattle.offsets.specs.Shifting.{shiftedBytes}
+use Rattle.shift.specs.Shifting.{shiftedBytes}
 use Rattle.offsets.proofs.BlockLaws.{short-one}
 use Rattle.offsets.proofs.blocks.low_row.Statement.{statement}
 use Rattle.offsets.proofs.blocks.low_row.Tie as tie

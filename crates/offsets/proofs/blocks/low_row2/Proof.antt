@@ -8,10 +8,10 @@ use lib.ListN.{length}
 use Rattle.scan.specs.Buffer.{over}
 use Rattle.raster.specs.Bytes.{joined}
 use Rattle.raster.specs.Strided.{rowOf}
-use Rattle.offsets.specs.Shifting.{shiftedBytes}
-use Rattle.elements.proofs.RowLaws.{row-more, row-done}
+use Rattle.shift.specs.Shifting.{shiftedBytes}
+use Rattle.strides.proofs.RowLaws.{row-more, row-done}
 use Rattle.offsets.proofs.BlockLaws.{inside-run}
-use Rattle.offsets.proofs.Swaps.{length-shifted}
+use Rattle.shift.proofs.Swaps.{length-shifted}
 use Rattle.offsets.proofs.blocks.low_row2.Statement.{statement}
 use Rattle.offsets.proofs.blocks.low_row2.Tie as tie
 

@@ -8,9 +8,9 @@ use borrow.Author.Tests.{eq-eqb, ne-eqb}
 use borrow.Rule.Slice.PartMut.{putMid, same-len-mid}
 use lib.ListN.{length, replicate, length-replicate}
 use Rattle.raster.specs.Strided.{turned}
-use Rattle.offsets.specs.Shifting.{shiftedBytes}
+use Rattle.shift.specs.Shifting.{shiftedBytes}
 use Rattle.offsets.proofs.BlockLaws.{short-width, short-some, front-length, inside-run, by-way, turned-after}
-use Rattle.offsets.proofs.Swaps.{length-shifted}
+use Rattle.shift.proofs.Swaps.{length-shifted}
 use Rattle.offsets.proofs.blocks.low_stored.Statement.{statement}
 use Rattle.offsets.proofs.blocks.low_stored.Tie as tie
 

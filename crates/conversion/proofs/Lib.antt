@@ -1,0 +1,4 @@
+pub mod Conversions
+pub mod Lengths
+pub mod Limits
+pub mod Signs

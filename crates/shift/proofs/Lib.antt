@@ -1,0 +1,4 @@
+pub mod Inverting
+pub mod Scaling
+pub mod Sums
+pub mod Swaps
