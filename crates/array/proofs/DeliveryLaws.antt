@@ -2,7 +2,6 @@
 -- array delivered.
 use mathlib.Core.Path.{_≡_, refl, sym, ap, subst, _∙_}
 use mathlib.Core.List.{List, [], _∷_}
-use mathlib.Core.Logic.{inl, inr}
 use Prim.Native.Nat.{ℕ, zero, suc, _+_, _*_, _^_, _≤_, _<_}
 use native.Mathlib.Nat.{mul-comm, mul-assoc, mul-one, le-mul-of-pos-right}
 use native.Mathlib.Omega.{arith}
@@ -11,18 +10,17 @@ use Rattle.raster.specs.Axis.{configurations, orderOf}
 use Rattle.raster.specs.Bytes.{joined}
 use Rattle.raster.specs.Element.{elementBytes}
 use Rattle.raster.specs.Position.{product, storedPosition}
-use Rattle.raster.specs.Strided.{placeOf, Inside3, Width, deliveredAt}
+use Rattle.raster.specs.Strided.{placeOf, Inside3, deliveredAt}
 use Rattle.raster.specs.Strides.{stepsOf}
-use Rattle.raster.specs.Types.{typeOf}
 use Rattle.raster.specs.declared.stride.Steps.{Steps}
 use Rattle.raster.proofs.Joined.{joined-length, joined-same}
 use Rattle.raster.proofs.OrderLaws.{as-three}
 use Rattle.raster.proofs.RoundTrip.{length-bytes}
 use Rattle.raster.proofs.StepLaws.{steps-lead, steps-inside}
-use Rattle.delivery.proofs.Tables.{type-width}
-use Rattle.array.specs.Delivery.{arrayType, arrayDims, arrayOrder, storedElement, deliveredElement, delivered}
-use Rattle.array.specs.Valid.{ValidArray}
-use Rattle.array.specs.declared.Description.{Description}
+use Rattle.description.specs.Shape.{arrayType, arrayDims, arrayOrder}
+use Rattle.description.specs.Valid.{ValidArray}
+use Rattle.description.specs.declared.Description.{Description}
+use Rattle.array.specs.Delivery.{storedElement, deliveredElement, delivered}
 
 few-configurations : (n : ℕ) → n ≤ 3 → configurations n ≤ 48
 unfolding configurations
@@ -84,19 +82,6 @@ unfolding delivered
 empty-delivered d asked l e =
     joined-nothing (d .dim3) _ (λ i3. joined-nothing (d .dim2) _ (λ i2. joined-none (d .dim1) _ e))
 
--- Every type has a width.
-width-by : (w : ℕ) → Width w → (0 < w) × (w ≤ 8)
-width-by w (inl e) = (omega arith, omega arith)
-width-by w (inr (inl e)) = (omega arith, omega arith)
-width-by w (inr (inr (inl e))) = (omega arith, omega arith)
-width-by w (inr (inr (inr e))) = (omega arith, omega arith)
-
-pub type-width-some : (code : ℕ) → 0 < typeOf code .width
-type-width-some code = width-by (typeOf code .width) (type-width code) .0
-
-pub type-width-few : (code : ℕ) → typeOf code .width ≤ 8
-type-width-few code = width-by (typeOf code .width) (type-width code) .1
-
 -- ---- A valid array
 
 module _ (d : Description) (size : ℕ) (v : ValidArray d size) where
@@ -104,7 +89,7 @@ module _ (d : Description) (size : ℕ) (v : ValidArray d size) where
   few = omega (arith, v .configured, few-configurations (d .n) (v .few))
 
   pub product-is : product (arrayDims d) ≡ d .dim1 * d .dim2 * d .dim3
-  product-is = product-by (d .n) (d .dim1) (d .dim2) (d .dim3) (v .some) (v .few) (v .past2) (v .past3)
+  product-is = product-by (d .n) (d .dim1) (d .dim2) (d .dim3) (v .at-least-one) (v .few) (v .past2) (v .past3)
 
   pub room-is : (w : ℕ) → w * (d .dim1 * d .dim2 * d .dim3) ≡ product (arrayDims d) * w
   room-is w = rw product-is (mul-comm w (d .dim1 * d .dim2 * d .dim3))
@@ -123,7 +108,7 @@ module _ (d : Description) (size : ℕ) (v : ValidArray d size) where
       → storedPosition (arrayDims d) (arrayOrder d) (i1 ∷ i2 ∷ i3 ∷ [])
       ≡ storedPosition (d .dim1 ∷ d .dim2 ∷ d .dim3 ∷ []) (orderOf 3 (d .configuration)) (i1 ∷ i2 ∷ i3 ∷ [])
   stored-three i1 i2 i3 h2 h3 =
-      as-three (d .n) (d .configuration) (d .dim1 ∷ d .dim2 ∷ d .dim3 ∷ []) i1 i2 i3 (v .some) (v .few) (omega (arith, v .configured))
+      as-three (d .n) (d .configuration) (d .dim1 ∷ d .dim2 ∷ d .dim3 ∷ []) i1 i2 i3 (v .at-least-one) (v .few) (omega (arith, v .configured))
       (λ h. omega (arith, v .past2 h)) (λ h. omega (arith, v .past3 h))
 
   pub stored-place : (l : List ℕ) (i1 i2 i3 : ℕ) → i1 < d .dim1 → i2 < d .dim2 → i3 < d .dim3

@@ -1,13 +1,7 @@
-pub mod CodeLaws
 pub mod DeliveryLaws
-pub mod DescribeLaws
-pub mod DescribedLaws
-pub mod DimLaws
-pub mod FieldLaws
 pub mod Main
 pub mod Nans
 pub mod Pieces
 pub mod PixelLaws
 pub mod PixelValues
 pub mod ReadLaws
-pub mod Words

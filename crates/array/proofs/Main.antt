@@ -13,11 +13,13 @@ use Rattle.raster.specs.Pixels.{pixelOf}
 use Rattle.raster.specs.Position.{product}
 use Rattle.raster.specs.Strided.{Octets, placeOf}
 use Rattle.raster.proofs.Stored.{octets-part}
-use Rattle.elements.proofs.RowLaws.{length-element}
-use Rattle.array.specs.Delivery.{Array, arrayType, arrayDims, storedElement, deliveredElement, delivered, arrayOf, arrayIn, isIndex, pixelAt, pixelIn}
-use Rattle.array.specs.Valid.{ValidArray}
-use Rattle.array.specs.declared.Description.{Description}
-use Rattle.array.proofs.DeliveryLaws.{arraySteps, length-delivered-element, length-row, length-plane, length-delivered, stored-place, element-inside, type-width-some}
+use Rattle.raster.proofs.Tables.{type-width-some}
+use Rattle.description.specs.Shape.{arrayType, arrayDims}
+use Rattle.description.specs.Valid.{ValidArray}
+use Rattle.description.specs.declared.Description.{Description}
+use Rattle.strides.proofs.RowLaws.{length-element}
+use Rattle.array.specs.Delivery.{Array, storedElement, deliveredElement, delivered, arrayOf, arrayIn, isIndex, pixelAt, pixelIn}
+use Rattle.array.proofs.DeliveryLaws.{arraySteps, length-delivered-element, length-row, length-plane, length-delivered, stored-place, element-inside}
 use Rattle.array.proofs.Pieces.{piece-part}
 use Rattle.array.proofs.PixelLaws.{bits-delivered, index-inside}
 use Rattle.array.proofs.ReadLaws.{array-seen, array-written}

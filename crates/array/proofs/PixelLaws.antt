@@ -18,10 +18,10 @@ use Rattle.raster.specs.Types.{Class, unsigned, signed, float, DataType}
 use Rattle.raster.specs.declared.stride.Steps.{Steps}
 use Rattle.raster.proofs.RoundTrip.{number-bound, number-of-bytes}
 use Rattle.raster.proofs.Stored.{octets-part}
-use Rattle.elements.proofs.RowLaws.{length-element}
-use Rattle.offsets.proofs.Sums.{offset-moved}
+use Rattle.description.specs.declared.Description.{Description}
+use Rattle.strides.proofs.RowLaws.{length-element}
+use Rattle.shift.proofs.Sums.{offset-moved}
 use Rattle.array.specs.Delivery.{isIndex}
-use Rattle.array.specs.declared.Description.{Description}
 
 -- ---- Bits are within their width
 

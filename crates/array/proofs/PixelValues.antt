@@ -9,11 +9,10 @@ use lib.IntN.{ℤ, pos, negsuc}
 use Rattle.raster.specs.Element.{half, signedOf}
 use Rattle.raster.specs.Pixels.{pixelOf}
 use Rattle.raster.specs.Strided.{Width}
-use Rattle.raster.specs.Types.{Class, unsigned, signed, float}
+use Rattle.raster.specs.Types.{Class, unsigned, signed, float, classNumber}
 use Rattle.raster.specs.declared.Pixel.the-variants.{Unsigned, Signed, Float32, Float64}
 use Rattle.raster.proofs.RoundTrip.{two-halves}
-use Rattle.delivery.specs.Converting.{classNumber}
-use Rattle.delivery.proofs.Tables.{is-unsigned, is-signed}
+use Rattle.raster.proofs.Tables.{is-unsigned, is-signed}
 
 pub signed-low : (h n : ℕ) → n < h → pos n ≡ signedOf h n
 signed-low h n l = rw (lt-ltb n h l)

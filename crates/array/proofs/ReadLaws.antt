@@ -17,13 +17,13 @@ use Rattle.keyword.proofs.Views.{view-inside}
 use Rattle.raster.specs.Strided.{Octets}
 use Rattle.raster.specs.declared.Pixel.{Pixel}
 use Rattle.raster.proofs.Stored.{octets-part}
-use Rattle.elements.proofs.RowLaws.{length-element}
+use Rattle.description.specs.Describe.{descriptionIn}
+use Rattle.description.specs.Valid.{ValidArray}
+use Rattle.description.specs.declared.Description.{Description}
+use Rattle.description.proofs.DescribedLaws.{step-ok, check-ok, same-ok, block-valid}
+use Rattle.strides.proofs.RowLaws.{length-element}
 use Rattle.array.specs.Delivery.{Array, dataOf, arrayOf, isOrder, delivered, arrayIn, isIndex, pixelAt, pixelIn}
-use Rattle.array.specs.Describe.{descriptionIn}
 use Rattle.array.specs.Reading.{deliveredIn, sampledIn}
-use Rattle.array.specs.Valid.{ValidArray}
-use Rattle.array.specs.declared.Description.{Description}
-use Rattle.array.proofs.DescribedLaws.{step-ok, check-ok, same-ok, block-valid}
 
 -- ---- By a description
 

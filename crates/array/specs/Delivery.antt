@@ -3,29 +3,17 @@ use mathlib.Core.Bool.{Bool, _&&_}
 use mathlib.Core.List.{List, [], _∷_}
 use Prim.Native.Nat.{ℕ, _+_, _*_}
 use lib.Dec.{leb, ltb}
-use lib.ListN.{take}
 use Rattle.scan.specs.Byte.{bytesAt}
 use Rattle.scan.specs.Outcome.{Outcome, ok, require, _>>=_, _>>_}
 use Rattle.keyword.specs.Keyword.{View, viewOf}
-use Rattle.raster.specs.Axis.{Axis, orderOf}
 use Rattle.raster.specs.Bytes.{joined}
 use Rattle.raster.specs.Element.{elementBits, elementBytes}
 use Rattle.raster.specs.Pixels.{pixelOf}
 use Rattle.raster.specs.Position.{storedPosition}
-use Rattle.raster.specs.Types.{DataType, typeOf}
 use Rattle.raster.specs.declared.Pixel.{Pixel}
-use Rattle.array.specs.Describe.{descriptionIn}
-use Rattle.array.specs.declared.Description.{Description}
-
--- The type, Dims and order of indices of a description.
-abbrev pub arrayType : Description → DataType
-arrayType d = typeOf (d .datatype)
-
-abbrev pub arrayDims : Description → List ℕ
-arrayDims d = take (d .n) (d .dim1 ∷ d .dim2 ∷ d .dim3 ∷ [])
-
-abbrev pub arrayOrder : Description → List Axis
-arrayOrder d = orderOf (d .n) (d .configuration)
+use Rattle.description.specs.Describe.{descriptionIn}
+use Rattle.description.specs.Shape.{arrayType, arrayDims, arrayOrder}
+use Rattle.description.specs.declared.Description.{Description}
 
 -- The stored bytes of the element at an index, in the data of its block.
 unfoldable pub storedElement : Description → List ℕ → ℕ → ℕ → ℕ → List ℕ

@@ -3,8 +3,8 @@ use mathlib.Core.List.{List}
 use Prim.Native.Nat.{ℕ}
 use Rattle.scan.specs.Outcome.{Outcome, ok, require, _>>_}
 use Rattle.raster.specs.declared.Pixel.{Pixel}
+use Rattle.description.specs.declared.Description.{Description}
 use Rattle.array.specs.Delivery.{delivered, isOrder, isIndex, pixelAt}
-use Rattle.array.specs.declared.Description.{Description}
 
 -- What `arrayIn` and `pixelIn` do last, with the bytes of the block's data.
 unfoldable pub deliveredIn : Description → List ℕ → ℕ → Outcome (List ℕ)

@@ -1,15 +1,16 @@
 // The delivery of a block's array from its data.
-use crate::Description;
 use delivery::arrays::deliver;
-use delivery::conversion::width_of;
+use description::Description;
 use raster::stride::steps_of;
+use raster::types::width_of;
 ghost use mathlib.Core.Path.{_≡_};
 ghost use Prim.Native.Nat.{_*_, _≤_};
 ghost use lib.ListN.{length};
 ghost use Rattle.scan.specs.Buffer.{over};
 ghost use Rattle.raster.specs.Position.{product};
-ghost use Rattle.array.specs.Delivery.{arrayType, arrayDims, isOrder, delivered};
-ghost use Rattle.array.specs.Valid.{ValidArray};
+ghost use Rattle.description.specs.Shape.{arrayType, arrayDims};
+ghost use Rattle.description.specs.Valid.{ValidArray};
+ghost use Rattle.array.specs.Delivery.{isOrder, delivered};
 
 // Whether a number is the code of a byte order.
 pub fn is_order(asked: u8) -> bool

@@ -1,13 +1,13 @@
 // One pixel of a block's array, from its data.
-use crate::Description;
 use delivery::arrays::deliver;
-use delivery::conversion::class_of;
-use delivery::conversion::width_of;
-use elements::rows::spot;
-use offsets::numbers::low8;
+use description::Description;
 use raster::Pixel;
 use raster::stride::Steps;
 use raster::stride::steps_of;
+use raster::types::class_of;
+use raster::types::width_of;
+use shift::numbers::low8;
+use strides::places::spot;
 use text::signed::down;
 use text::signed::up;
 ghost use mathlib.Core.Path.{_≡_};
@@ -19,8 +19,9 @@ ghost use Rattle.raster.specs.Element.{half, signedOf, elementBits};
 ghost use Rattle.raster.specs.Pixels.{pixelOf};
 ghost use Rattle.raster.specs.Strided.{Inside3, Width, placeOf};
 ghost use Rattle.raster.specs.Types.{typeOf};
-ghost use Rattle.array.specs.Delivery.{arrayType, isIndex, pixelAt};
-ghost use Rattle.array.specs.Valid.{ValidArray};
+ghost use Rattle.description.specs.Shape.{arrayType};
+ghost use Rattle.description.specs.Valid.{ValidArray};
+ghost use Rattle.array.specs.Delivery.{isIndex, pixelAt};
 
 // A float of its bits. There is one NaN, which every pattern of a NaN gives.
 fn f32_of(n: u32) -> f32
@@ -49,15 +50,14 @@ fn half_of(w: usize) -> u64
     ensures { λ r. ⌜ r ≡ half w ⌝ }
 {
     if w == 8 {
-        return 0x8000_0000_0000_0000;
+        0x8000_0000_0000_0000
+    } else if w == 4 {
+        0x8000_0000
+    } else if w == 2 {
+        0x8000
+    } else {
+        0x80
     }
-    if w == 4 {
-        return 0x8000_0000;
-    }
-    if w == 2 {
-        return 0x8000;
-    }
-    0x80
 }
 
 // Two's complement, where `h` is half of the numbers.
@@ -76,15 +76,14 @@ fn pixel_by(datatype: u8, n: u64) -> Pixel
     let class = class_of(datatype);
     let w = width_of(datatype);
     if class == 0 {
-        return Pixel::Unsigned(n);
+        Pixel::Unsigned(n)
+    } else if class == 1 {
+        Pixel::Signed(signed_of(n, half_of(w)))
+    } else if w == 4 {
+        Pixel::Float32(f32_of(n as u32))
+    } else {
+        Pixel::Float64(f64_of(n))
     }
-    if class == 1 {
-        return Pixel::Signed(signed_of(n, half_of(w)));
-    }
-    if w == 4 {
-        return Pixel::Float32(f32_of(n as u32));
-    }
-    Pixel::Float64(f64_of(n))
 }
 
 // The offset of an element in `len` bytes.
@@ -143,12 +142,12 @@ pub fn is_index(d: Description, i1: usize, i2: usize, i3: usize) -> bool
     ensures { λ r. ⌜ r ≡ isIndex d i1 i2 i3 ⌝ }
 {
     if d.dim1 <= i1 {
-        return false;
+        false
+    } else if d.dim2 <= i2 {
+        false
+    } else {
+        i3 < d.dim3
     }
-    if d.dim2 <= i2 {
-        return false;
-    }
-    i3 < d.dim3
 }
 
 // The pixel at an index.

@@ -1,13 +1,13 @@
 // The array of a block of a file, into a lent buffer, and one pixel of it.
-use super::Described;
-use super::Description;
 use super::Sampled;
 use super::deliver::array_length;
 use super::deliver::deliver_array;
 use super::deliver::is_order;
-use super::describe::describe_block;
 use super::pixel::is_index;
 use super::pixel::pixel_of;
+use description::Described;
+use description::Description;
+use description::describe::describe_block;
 use keyword::Block;
 use keyword::Viewed;
 use keyword::view::view;
@@ -21,10 +21,10 @@ ghost use lib.ListN.{length};
 ghost use Rattle.scan.specs.Buffer.{lengthWritten, bufferAfter};
 ghost use Rattle.text.specs.Answers.{writtenOutcome};
 ghost use Rattle.keyword.specs.Viewing.{viewAt};
+ghost use Rattle.description.specs.Valid.{ValidArray};
 ghost use Rattle.array.specs.Answers.{sampledOutcome};
 ghost use Rattle.array.specs.Delivery.{dataOf, arrayIn, pixelIn};
 ghost use Rattle.array.specs.Reading.{deliveredIn, sampledIn};
-ghost use Rattle.array.specs.Valid.{ValidArray};
 
 // The data of a block.
 pub fn data_of(file: &[u8], b: Block) -> &[u8]
@@ -52,10 +52,11 @@ fn deliver_described(src: &[u8], d: Description, asked: u8, out: &mut [u8]) -> W
     }
     let n = array_length(src, d);
     if out.len() < n {
-        return failure(22);
+        failure(22)
+    } else {
+        deliver_array(src, d, asked, out);
+        Written::Length(n)
     }
-    deliver_array(src, d, asked, out);
-    Written::Length(n)
 }
 
 // The array of the block with a number, from 0, in a byte order, at the front of `out`. Errors, in which `out` is untouched:

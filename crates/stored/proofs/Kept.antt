@@ -20,12 +20,15 @@ use Rattle.raster.proofs.Joined.{joined-same, joined-rows}
 use Rattle.raster.proofs.OrderLaws.{as-three}
 use Rattle.raster.proofs.RoundTrip.{element-moved, element-kept}
 use Rattle.raster.proofs.Stored.{octets-part}
-use Rattle.elements.proofs.RowLaws.{flat, length-element}
-use Rattle.array.specs.Delivery.{arrayType, arrayDims, storedElement, deliveredElement, delivered}
-use Rattle.array.specs.Describe.{isZero}
-use Rattle.array.specs.Valid.{ValidArray}
-use Rattle.array.specs.declared.Description.{Description}
-use Rattle.array.proofs.DeliveryLaws.{arraySteps, stored-place, element-inside, room-is, type-width-some}
+use Rattle.raster.proofs.Tables.{type-width-some}
+use Rattle.description.specs.Describe.{isZero}
+use Rattle.description.specs.Shape.{arrayType, arrayDims}
+use Rattle.description.specs.Valid.{ValidArray}
+use Rattle.description.specs.declared.Description.{Description}
+use Rattle.strides.proofs.RowLaws.{length-element}
+use Rattle.elements.proofs.RunLaws.{flat}
+use Rattle.array.specs.Delivery.{storedElement, deliveredElement, delivered}
+use Rattle.array.proofs.DeliveryLaws.{arraySteps, stored-place, element-inside, room-is}
 use Rattle.stored.specs.Stored.{asDelivered}
 
 -- ---- The test
@@ -111,7 +114,7 @@ module _ (d : Description) (asked : ℕ) (l : List ℕ) (v : ValidArray d (lengt
   stored-at i1 i2 i3 h2 h3 =
       let k = i1 + d .dim1 * i2 + d .dim1 * d .dim2 * i3 in
       let three =
-      as-three (d .n) (d .configuration) (d .dim1 ∷ d .dim2 ∷ d .dim3 ∷ []) i1 i2 i3 (v .some) (v .few) (omega (arith, v .configured))
+      as-three (d .n) (d .configuration) (d .dim1 ∷ d .dim2 ∷ d .dim3 ∷ []) i1 i2 i3 (v .at-least-one) (v .few) (omega (arith, v .configured))
       (λ h. omega (arith, v .past2 h)) (λ h. omega (arith, v .past3 h)) in
       let first =
       ap (λ (n : ℕ). storedPosition (d .dim1 ∷ d .dim2 ∷ d .dim3 ∷ []) (orderOf 3 n) (i1 ∷ i2 ∷ i3 ∷ [])) (kept d asked same .configured)

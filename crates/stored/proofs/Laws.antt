@@ -20,10 +20,11 @@ use Rattle.keyword.proofs.Views.{view-inside}
 use Rattle.raster.specs.Position.{product}
 use Rattle.raster.specs.Strided.{Octets}
 use Rattle.raster.proofs.Stored.{octets-part}
-use Rattle.array.specs.Delivery.{arrayType, arrayDims, dataOf, isOrder, delivered, arrayIn}
-use Rattle.array.specs.Describe.{isZero, descriptionIn, descriptionOf}
-use Rattle.array.specs.declared.Description.{Description}
-use Rattle.array.proofs.DescribedLaws.{step-ok, check-ok, same-ok, block-valid}
+use Rattle.description.specs.Describe.{isZero, descriptionIn, descriptionOf}
+use Rattle.description.specs.Shape.{arrayType, arrayDims}
+use Rattle.description.specs.declared.Description.{Description}
+use Rattle.description.proofs.DescribedLaws.{step-ok, check-ok, same-ok, block-valid}
+use Rattle.array.specs.Delivery.{dataOf, isOrder, delivered, arrayIn}
 use Rattle.array.proofs.ReadLaws.{no-block, no-description, no-array, array-is, array-valid}
 use Rattle.stored.specs.Stored.{storedWith, storedArray, storedOutcome, Delivers}
 use Rattle.stored.specs.declared.Stored.{Stored}

@@ -8,9 +8,10 @@ use Rattle.scan.specs.Byte.{partOf}
 use Rattle.scan.specs.Outcome.{Outcome, ok, failed, require, _>>=_, _>>_}
 use Rattle.keyword.specs.Keyword.{viewOf}
 use Rattle.raster.specs.Position.{product}
-use Rattle.array.specs.Delivery.{arrayType, arrayDims, isOrder, arrayIn}
-use Rattle.array.specs.Describe.{isZero, descriptionIn}
-use Rattle.array.specs.declared.Description.{Description}
+use Rattle.description.specs.Describe.{isZero, descriptionIn}
+use Rattle.description.specs.Shape.{arrayType, arrayDims}
+use Rattle.description.specs.declared.Description.{Description}
+use Rattle.array.specs.Delivery.{isOrder, arrayIn}
 use Rattle.stored.specs.declared.Stored.{Stored}
 use Rattle.stored.specs.declared.Stored.the-variants as stored
 use Rattle.stored.specs.declared.StoredArray.{StoredArray}

@@ -1,18 +1,18 @@
 // Where a block's array stands in its file, for callers that read, map or move those bytes themselves.
-use array::Described;
-use array::Description;
 use array::deliver::array_length;
 use array::deliver::is_order;
-use array::describe::describe_block;
 use array::read::data_of;
-use delivery::conversion::width_of;
+use description::Described;
+use description::Description;
+use description::describe::describe_block;
 use keyword::Viewed;
 use keyword::view::view;
+use raster::types::width_of;
 use scan::Error;
 use scan::Span;
 ghost use mathlib.Core.Path.{_≡_};
 ghost use lib.ListN.{length};
-ghost use Rattle.array.specs.Valid.{ValidArray};
+ghost use Rattle.description.specs.Valid.{ValidArray};
 ghost use Rattle.stored.specs.Stored.{asDelivered, storedArray, storedWith, storedOutcome, Delivers};
 
 // A block's array as it is stored: its description, the span of its bytes in the file, and whether these bytes are just those

@@ -2,8 +2,8 @@
 use mathlib.Core.Path.{sym, ap, _∙_}
 use native.Mathlib.Omega.{arith}
 use Rattle.keyword.specs.Viewing.{viewAt, viewedOutcome}
+use Rattle.description.specs.Answers.{describedOutcome}
 use Rattle.delivery.proofs.Planes.{octets-all}
-use Rattle.array.specs.Answers.{describedOutcome}
 use Rattle.array.proofs.ReadLaws.{row-inside, array-valid}
 use Rattle.stored.proofs.Laws.{unseen, undescribed, with-description, delivers}
 use borrow.Author.Needs.{needs}

@@ -10,7 +10,7 @@ use mir.Val.{SFits}
 use mir.ValLaws.{toZ-ofZ}
 use Rattle.scan.specs.Buffer.{over}
 use Rattle.raster.specs.Strided.{deliveredAt}
-use Rattle.array.specs.Delivery.{arrayType}
+use Rattle.description.specs.Shape.{arrayType}
 use Rattle.array.proofs.DeliveryLaws.{few, steps-fit, steps-hold, room-fits, delivered-made, empty-delivered}
 use borrow.Author.Needs.{needs}
 use Rattle.array.proofs.deliver.deliver_array.Statement.{statement}

@@ -9,8 +9,8 @@ use mir.ValLaws.{toZ-ofZ}
 use Rattle.scan.specs.Buffer.{over}
 use Rattle.raster.specs.Strided.{deliveredAt}
 use Rattle.raster.specs.Types.{typeOf}
+use Rattle.raster.proofs.Tables.{type-width-few, type-width-some}
 use Rattle.delivery.proofs.Planes.{octets-all}
-use Rattle.array.proofs.DeliveryLaws.{type-width-few, type-width-some}
 use Rattle.array.proofs.PixelLaws.{stepsAt, one-inside, bits-read}
 use borrow.Author.Needs.{needs}
 use Rattle.array.proofs.pixel.bits_of.Statement.{statement}

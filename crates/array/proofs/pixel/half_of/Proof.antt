@@ -1,7 +1,7 @@
 -- `array::pixel::half_of` meets its contract.
 use mathlib.Core.Path.{sym, ap}
 use Rattle.raster.specs.Element.{half}
-use Rattle.elements.proofs.RowLaws.{width-one}
+use Rattle.strides.proofs.RowLaws.{width-one}
 use Rattle.array.proofs.pixel.half_of.Statement.{statement}
 use Rattle.array.proofs.pixel.half_of.Tie as tie
 

@@ -6,8 +6,7 @@ use Rattle.text.proofs.Signs.{gave}
 use Rattle.raster.specs.Element.{half, signedOf}
 use Rattle.raster.specs.Strided.{Width}
 use Rattle.raster.specs.Types.{typeOf}
-use Rattle.delivery.proofs.Tables.{type-width}
-use Rattle.array.proofs.DeliveryLaws.{type-width-some}
+use Rattle.raster.proofs.Tables.{type-width, type-width-some}
 use Rattle.array.proofs.PixelValues.{half-fits, four-fits, pixel-unsigned, pixel-signed, pixel-narrow, pixel-wide}
 use borrow.Author.Needs.{needs}
 use Rattle.array.proofs.pixel.pixel_by.Statement.{statement}
@@ -85,12 +84,12 @@ pixel-by-spec =
     (tie.spec
     class-of-requires
     width-of-requires
-    returns
     half-of-requires
     signed-of-requires
-    returns-2
     cast-f32-of
     f32-of-requires
-    returns-3
     f64-of-requires
+    returns
+    returns-2
+    returns-3
     returns-4)

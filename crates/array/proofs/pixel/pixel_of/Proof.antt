@@ -7,7 +7,8 @@ use Rattle.raster.specs.Element.{elementBits}
 use Rattle.raster.specs.Pixels.{pixelOf}
 use Rattle.raster.specs.Strided.{Inside3, placeOf}
 use Rattle.raster.specs.declared.stride.Steps.{Steps}
-use Rattle.array.specs.Delivery.{arrayType, pixelAt}
+use Rattle.description.specs.Shape.{arrayType}
+use Rattle.array.specs.Delivery.{pixelAt}
 use Rattle.array.proofs.DeliveryLaws.{few, steps-fit, steps-are, steps-hold, stored-place}
 use Rattle.array.proofs.PixelLaws.{index-inside}
 use borrow.Author.Needs.{needs}

@@ -67,7 +67,7 @@ deliver-described-spec =
     returns
     array-length-requires
     failure-requires-2
-    returns-2
     deliver-array-requires
+    returns-2
     same-length
     returns-3)

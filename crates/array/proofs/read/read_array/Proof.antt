@@ -2,7 +2,7 @@
 use mathlib.Core.Path.{sym, ap, _∙_}
 use Rattle.text.proofs.Buffers.{of-equal}
 use Rattle.keyword.specs.Viewing.{viewedOutcome}
-use Rattle.array.specs.Answers.{describedOutcome}
+use Rattle.description.specs.Answers.{describedOutcome}
 use Rattle.array.proofs.ReadLaws.{unwritten, row-inside, no-block, no-description, array-is, array-valid, no-array, array-by}
 use borrow.Author.Needs.{needs}
 use Rattle.array.proofs.read.read_array.Statement.{statement}

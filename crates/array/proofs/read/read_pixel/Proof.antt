@@ -1,7 +1,7 @@
 -- `array::read::read_pixel` meets its contract.
 use mathlib.Core.Path.{sym, ap, _∙_}
 use Rattle.keyword.specs.Viewing.{viewedOutcome}
-use Rattle.array.specs.Answers.{describedOutcome}
+use Rattle.description.specs.Answers.{describedOutcome}
 use Rattle.array.proofs.ReadLaws.{row-inside, no-block, no-description, array-is, array-valid, no-pixel, pixel-by}
 use borrow.Author.Needs.{needs}
 use Rattle.array.proofs.read.read_pixel.Statement.{statement}

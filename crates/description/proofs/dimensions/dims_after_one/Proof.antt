@@ -1,0 +1,51 @@
+-- `description::dimensions::dims_after_one` meets its contract.
+use mathlib.Core.Path.{sym, ap, _∙_}
+use Rattle.description.specs.Answers.{dimOption}
+use Rattle.description.proofs.DimLaws.{no-more, missing, bad-dim, next-dim}
+use borrow.Author.Needs.{needs}
+use Rattle.description.proofs.dimensions.dims_after_one.Statement.{statement}
+use Rattle.description.proofs.dimensions.dims_after_one.Tie as tie
+
+slice-aggregate-dim-of : tie.Need-slice-aggregate-dim-of
+slice-aggregate-dim-of c = search needs
+
+dim-of-requires : tie.Need-dim-of-requires
+dim-of-requires c κs = search needs
+
+enum-told : tie.Need-enum-told
+enum-told c = search needs
+
+enum-known-e : tie.Need-enum-known-e
+enum-known-e c = search needs
+
+enum-known-dim2 : tie.Need-enum-known-dim2
+enum-known-dim2 c = search needs
+
+dims-after-two-requires : tie.Need-dims-after-two-requires
+dims-after-two-requires c κs = search needs
+
+returns : tie.Need-returns
+returns c =
+    no-more _ _ (missing _ (sym (ap dimOption (c .enum-told .given .1)) ∙ c .before .before .dim-of .ensures))
+
+returns-2 : tie.Need-returns-2
+returns-2 c =
+    bad-dim _ _ _ _ (sym (ap dimOption (c .before .e .given .1)) ∙ c .before .before .before .dim-of .ensures)
+
+returns-3 : tie.Need-returns-3
+returns-3 c =
+    next-dim _ _ _ _ (sym (ap dimOption (c .before .before .dim2 .given .1)) ∙ c .before .before .before .before .dim-of .ensures) (c .dims-after-two .ensures)
+
+pub dims-after-one-spec : {M : Type 1} → statement M
+dims-after-one-spec =
+    tie.close
+    (tie.spec
+    slice-aggregate-dim-of
+    dim-of-requires
+    enum-told
+    enum-known-e
+    enum-known-dim2
+    dims-after-two-requires
+    returns
+    returns-2
+    returns-3)
