@@ -16,8 +16,8 @@ use Rattle.keyword.specs.Viewing.{valueIn}
 use Rattle.raster.specs.Axis.{configurations}
 use Rattle.raster.specs.Position.{product}
 use Rattle.raster.specs.Types.{typeOf, typeWords, orderWords, compressionWords, codeOf}
-use Rattle.array.specs.Describe.{Values, dimValues, dimsOf, wordsOf, offsetAllowed, described, descriptionIn}
-use Rattle.array.specs.Fields.{wordField, inRange, rangeField, wholeField, foundFirst, dimsFrom, orEmpty}
+use Rattle.description.specs.Describe.{Values, dimValues, dimsOf, wordsOf, offsetAllowed, described, descriptionIn}
+use Rattle.description.specs.Fields.{wordField, inRange, rangeField, wholeField, foundFirst, dimsFrom, orEmpty}
 use Rattle.listing.proofs.ErrorLaws.{Errors, no-error, presence, checks, steps}
 
 -- The code is one from 16 to 21.

@@ -1,6 +1,6 @@
-pub mod ColumnLaws
 pub mod DescriptionErrors
 pub mod ErrorLaws
+pub mod LineLaws
 pub mod Listed
 pub mod OneBlock
 pub mod RowLaws

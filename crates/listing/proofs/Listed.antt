@@ -7,8 +7,8 @@ use native.Mathlib.Omega.{arith}
 use lib.ListN.{length, take, drop, getD, drop-of-length-le}
 use lib.Seq.{drop-cons, getD-take, length-take-le}
 use Rattle.blocks.specs.declared.Row.{Row}
-use Rattle.writer.specs.Append.{Appended}
-use Rattle.writer.proofs.Appending.{appended-then, appended-is, appended-nothing}
+use Rattle.append.specs.Append.{Appended}
+use Rattle.append.proofs.Appending.{appended-then, appended-is, appended-nothing}
 use Rattle.listing.specs.Listing.{blockLine, blockLines}
 use Rattle.listing.specs.Rows.{FileRows}
 

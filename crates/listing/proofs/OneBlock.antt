@@ -10,11 +10,13 @@ use Rattle.blocks.specs.Grammar.{Partition}
 use Rattle.blocks.specs.Opening.{openedFile}
 use Rattle.blocks.specs.declared.Row.{Row}
 use Rattle.blocks.proofs.Answers.{file-accepted}
-use Rattle.array.specs.Describe.{descriptionOf}
-use Rattle.array.specs.declared.Description.{Description}
-use Rattle.listing.specs.Listing.{number, line, arrayColumns, descriptionColumns, details, rowColumns, blockLine, blockLines, countLine, listing, listingOf}
+use Rattle.description.specs.Describe.{descriptionOf}
+use Rattle.description.specs.declared.Description.{Description}
+use Rattle.columns.specs.Columns.{number, arrayColumns}
+use Rattle.blocks.specs.Limits.{fileLimit}
+use Rattle.listing.specs.Listing.{line, descriptionColumns, details, rowColumns, blockLine, blockLines, countLine, listing, listingOf}
 
-pub one-block-listing : (s : List ℕ) (row : Row) (d : Description) → Partition s (row ∷ []) → length s ≤ 1073741824 → row .kind ≡ 1
+pub one-block-listing : (s : List ℕ) (row : Row) (d : Description) → Partition s (row ∷ []) → length s ≤ fileLimit → row .kind ≡ 1
     → descriptionOf s 0 ≡ ok d → listing s ≡ countLine 1 ++ line (number 0) (rowColumns row ++ arrayColumns d)
 unfolding listing listingOf blockLines blockLine details descriptionColumns
 one-block-listing s row d c small k e =

@@ -24,13 +24,16 @@ use Rattle.opening.specs.declared.Opening.{Opening}
 use Rattle.keyword.specs.Keyword.{View}
 use Rattle.keyword.specs.Viewing.{headerEntries, rowView}
 use Rattle.keyword.proofs.Views.{taken-at, row-headed, first-headed, row-within, block-view, opening-few}
-use Rattle.array.specs.Describe.{descriptionIn, descriptionOf}
-use Rattle.array.specs.declared.Description.{Description}
-use Rattle.array.proofs.DescribedLaws.{block-valid}
+use Rattle.description.specs.Describe.{descriptionIn, descriptionOf}
+use Rattle.description.specs.declared.Description.{Description}
+use Rattle.description.proofs.DescribedLaws.{block-valid}
+use Rattle.columns.specs.Columns.{after, arrayColumns, Answered}
+use Rattle.blocks.specs.Limits.{fileLimit}
+use Rattle.listing.specs.Limits.{inputLimit}
 use Rattle.listing.specs.Input.{inputListing}
-use Rattle.listing.specs.Listing.{after, arrayColumns, descriptionColumns, details, blockLines, refusedLine, countLine, listing, listingOf}
-use Rattle.listing.specs.Rows.{FileRows, IsRow, rowDescription, Answered}
-use Rattle.listing.proofs.ColumnLaws.{details-are}
+use Rattle.listing.specs.Listing.{descriptionColumns, details, blockLines, refusedLine, countLine, listing, listingOf}
+use Rattle.listing.specs.Rows.{FileRows, IsRow, rowDescription}
+use Rattle.listing.proofs.LineLaws.{details-are}
 use Rattle.listing.proofs.DescriptionErrors.{description-errors}
 
 module _ (s : List ℕ) where
@@ -60,11 +63,11 @@ module _ (s : List ℕ) where
         }
 
   -- What opening answers.
-  module _ (r : Opening) (o : Opens s r) (limit : length s ≤ 1073741824) where
+  module _ (r : Opening) (o : Opens s r) (limit : length s ≤ fileLimit) where
     pub file-rows : {n : ℕ} → r .answer ≡ Blocks n → FileRows s (r .rows) n
     file-rows a = record { opens = sym (rw a at (o .says)); few = opening-few s r o a; whole = o .whole; limit = limit }
 
-    pub error-small : {e : Error} → r .answer ≡ Failed e → e .position ≤ 1073741824
+    pub error-small : {e : Error} → r .answer ≡ Failed e → e .position ≤ fileLimit
     error-small a = let b = error-bounded (error-sound s (sym (rw a at (o .says)))) in omega (arith, b .position)
 
   -- ---- The description of a row
@@ -96,11 +99,11 @@ module _ (s : List ℕ) where
 
   -- ---- The listing, by what opening answers
 
-  pub listing-too-large : 1073741824 < length s → refusedLine (errorAt 1 0) ≡ listing s
+  pub listing-too-large : fileLimit < length s → refusedLine (errorAt 1 0) ≡ listing s
   unfolding listing listingOf openedFile
-  listing-too-large l = rw (lt-leb (length s) 1073741824 l)
+  listing-too-large l = rw (lt-leb (length s) fileLimit l)
 
-  module _ (r : Opening) (o : Opens s r) (limit : length s ≤ 1073741824) where
+  module _ (r : Opening) (o : Opens s r) (limit : length s ≤ fileLimit) where
     pub listing-failed : {e : Error} → r .answer ≡ Failed e → refusedLine e ≡ listing s
     unfolding listing listingOf
     listing-failed a = rw (within-limit s limit, sym (rw a at (o .says)))
@@ -113,13 +116,13 @@ module _ (s : List ℕ) where
 
   -- ---- The program's input
 
-  pub input-too-large : 65536 < length s → refusedLine (errorAt 1 0) ≡ inputListing s
+  pub input-too-large : inputLimit < length s → refusedLine (errorAt 1 0) ≡ inputListing s
   unfolding inputListing
-  input-too-large l = rw (lt-leb (length s) 65536 l)
+  input-too-large l = rw (lt-leb (length s) inputLimit l)
 
-  pub input-small : length s ≤ 65536 → listing s ≡ inputListing s
+  pub input-small : length s ≤ inputLimit → listing s ≡ inputListing s
   unfolding inputListing
-  input-small l = rw (le-leb (length s) 65536 l)
+  input-small l = rw (le-leb (length s) inputLimit l)
 
 -- What follows the identity of a data block.
 pub details-as : (row : Row) → (row .kind ≡ 0 → ⊥) → {x o : Outcome Description} → x ≡ o

@@ -1,3 +1,4 @@
 pub mod Input
+pub mod Limits
 pub mod Listing
 pub mod Rows

@@ -1,64 +1,22 @@
 -- What the lister prints of a file (01, "The lister"): the text, for every list of bytes.
 use mathlib.Core.Bool.{cond}
-use mathlib.Core.List.{List, [], _∷_, _++_, map}
-use Prim.Native.Nat.{ℕ, suc, _-_, _≤_}
+use mathlib.Core.List.{List, [], _∷_, _++_}
+use Prim.Native.Nat.{ℕ, suc, _≤_}
 use lib.Dec.{eqb}
-use lib.IntN.{pos}
-use lib.ListN.{length, getD}
+use lib.ListN.{length}
 use Rattle.scan.specs.Byte.{ascii}
 use Rattle.scan.specs.Outcome.{Outcome, ok, failed}
 use Rattle.scan.specs.declared.Error.{Error}
-use Rattle.text.specs.Decimal.{decimal}
-use Rattle.blocks.specs.IdentityText.{identityText}
 use Rattle.blocks.specs.Opening.{openedFile}
 use Rattle.blocks.specs.declared.Row.{Row}
-use Rattle.raster.specs.Types.{orderWords}
-use Rattle.array.specs.Delivery.{arrayType, arrayDims}
-use Rattle.array.specs.Describe.{descriptionOf}
-use Rattle.array.specs.declared.Description.{Description}
-
--- ---- Lines
-
--- A number from 0, in shortest decimal form.
-abbrev pub number : ℕ → List ℕ
-number n = decimal (pos n)
-
--- Pieces of text, each after a separator.
-unfoldable pub after : ℕ → List (List ℕ) → List ℕ
-after separator [] = []
-after separator (w ∷ ws) = (separator ∷ w) ++ after separator ws
+use Rattle.description.specs.Describe.{descriptionOf}
+use Rattle.description.specs.declared.Description.{Description}
+use Rattle.columns.specs.Columns.{number, after, identityOf, arrayColumns, errorColumns}
+use Rattle.listing.specs.Limits.{listingRoom}
 
 -- A line: its columns with a space between, and LF.
 unfoldable pub line : List ℕ → List (List ℕ) → List ℕ
 line first rest = first ++ (after 32 rest ++ ascii "\n")
-
--- ---- The columns of a block
-
--- "identity (`general`, or `-` in kind 1)". A data block has an instance in kind 2 only.
-unfoldable pub identityOf : Row → List ℕ
-identityOf row =
-    cond (eqb (row .kind) 0) (ascii "general")
-    (cond (eqb (row .instance) 0) (ascii "-") (identityText (row .sequence) (row .instance) (row .memory)))
-
--- "Dims joined by `x`"
-unfoldable pub dimsText : List ℕ → List ℕ
-dimsText [] = []
-dimsText (d ∷ ds) = number d ++ after 120 (map number ds)
-
--- "then type, order, Dims joined by `x`, configuration, orientation, offset"
-unfoldable pub arrayColumns : Description → List (List ℕ)
-arrayColumns d =
-    arrayType d .word
-    ∷ getD orderWords (d .byteorder - 1) []
-    ∷ dimsText (arrayDims d)
-    ∷ number (d .configuration)
-    ∷ number (d .orientation)
-    ∷ decimal (d .offset)
-    ∷ []
-
--- "number, place" of an error.
-unfoldable pub errorColumns : Error → List (List ℕ)
-errorColumns e = number (e .code) ∷ number (e .position) ∷ []
 
 -- "`refused`, number, place if not described"
 unfoldable pub descriptionColumns : Outcome Description → List (List ℕ)
@@ -99,6 +57,6 @@ listingOf s (failed e) = refusedLine e
 unfoldable pub listing : List ℕ → List ℕ
 listing s = listingOf s (openedFile s)
 
--- A buffer that has room for every listing: a first line of at most 28 bytes, and 256 lines of at most 294.
+-- A buffer that has room for every listing.
 abbrev pub FitsListing : List ℕ → Type 0
-FitsListing s = length (listing s) ≤ 75292
+FitsListing s = length (listing s) ≤ listingRoom

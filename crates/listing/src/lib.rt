@@ -1,4 +1,4 @@
 // What the lister prints of a file.
-pub mod columns;
+pub mod limits;
 pub mod lines;
 pub mod list;

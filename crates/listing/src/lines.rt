@@ -1,16 +1,16 @@
 // The lines of a listing, appended to a buffer. Each function answers the offset after what it appends.
-use crate::columns::array_columns;
-use crate::columns::error_columns;
-use crate::columns::identity_column;
-use crate::columns::number_after;
-use array::Described;
-use array::describe::describe_block;
+use append::bytes::append;
+use append::bytes::append_natural;
 use blocks::Row;
+use columns::described::array_columns;
+use columns::row::error_columns;
+use columns::row::identity_column;
+use columns::row::number_after;
+use description::Described;
+use description::describe::describe_block;
 use keyword::Viewed;
 use keyword::view::view_row;
 use scan::Error;
-use writer::append::append;
-use writer::append::append_natural;
 ghost use mathlib.Core.Path.{_≡_};
 ghost use mathlib.Core.List.{_++_};
 ghost use Prim.Native.Nat.{_+_, _≤_, _<_, _^_};
@@ -18,9 +18,13 @@ ghost use lib.IntN.{pos};
 ghost use lib.ListN.{length};
 ghost use Rattle.scan.specs.Outcome.{failed};
 ghost use Rattle.text.specs.Decimal.{decimal};
-ghost use Rattle.writer.specs.Append.{Appended};
-ghost use Rattle.array.specs.Answers.{describedOutcome};
-ghost use Rattle.listing.specs.Listing.{after, descriptionColumns, details, rowColumns, blockLine, refusedLine, countLine};
+ghost use Rattle.description.specs.Answers.{describedOutcome};
+ghost use Rattle.append.specs.Append.{Appended};
+ghost use Rattle.columns.specs.Columns.{after};
+ghost use Rattle.columns.specs.Most.{arrayMost};
+ghost use Rattle.blocks.specs.Limits.{fileLimit, blockLimit};
+ghost use Rattle.listing.specs.Limits.{refusedMost, rowMost, blockLineMost, countLineMost, refusedLineMost};
+ghost use Rattle.listing.specs.Listing.{descriptionColumns, details, rowColumns, blockLine, refusedLine, countLine};
 ghost use Rattle.listing.specs.Rows.{IsRow, rowDescription};
 
 // The description of a row's array, in a file with this first row.
@@ -34,9 +38,9 @@ fn describe_row(file: &[u8], first: Row, row: Row) -> Described
 }
 
 fn refused_columns(e: Error, out: &mut [u8], at: usize) -> usize
-    requires { ⌜ (e .position < 2 ^ 63) × (at + 50 ≤ length (now out)) ⌝ }
+    requires { ⌜ (e .position < 2 ^ 63) × (at + refusedMost ≤ length (now out)) ⌝ }
     ensures { λ r. ⌜ Appended (after 32 (descriptionColumns (failed e))) at (now (out .entry)) (now (out .exit)) r ⌝ }
-    ensures { λ r. ⌜ r ≤ at + 50 ⌝ }
+    ensures { λ r. ⌜ r ≤ at + refusedMost ⌝ }
 {
     let a = append(b" refused", out, at);
     error_columns(e, out, a)
@@ -52,9 +56,9 @@ fn detail_columns(
     at: usize,
 ) -> usize
     requires { ⌜ IsRow (now file) first row number ⌝ }
-    requires { ⌜ at + 156 ≤ length (now out) ⌝ }
+    requires { ⌜ at + arrayMost ≤ length (now out) ⌝ }
     ensures { λ r. ⌜ Appended (after 32 (details row (rowDescription (now (file .entry)) first row))) at (now (out .entry)) (now (out .exit)) r ⌝ }
-    ensures { λ r. ⌜ r ≤ at + 156 ⌝ }
+    ensures { λ r. ⌜ r ≤ at + arrayMost ⌝ }
 {
     if row.kind == 0 {
         return at;
@@ -67,10 +71,10 @@ fn detail_columns(
 
 // The number of a block, where it stands, and its identity.
 fn row_columns(number: usize, row: Row, out: &mut [u8], at: usize) -> usize
-    requires { ⌜ (number < 256) × (row .start + row .header + row .size ≤ 1073741824) ⌝ }
-    requires { ⌜ at + 137 ≤ length (now out) ⌝ }
+    requires { ⌜ (number < blockLimit) × (row .start + row .header + row .size ≤ fileLimit) ⌝ }
+    requires { ⌜ at + rowMost ≤ length (now out) ⌝ }
     ensures { λ r. ⌜ Appended (decimal (pos number) ++ after 32 (rowColumns row)) at (now (out .entry)) (now (out .exit)) r ⌝ }
-    ensures { λ r. ⌜ r ≤ at + 137 ⌝ }
+    ensures { λ r. ⌜ r ≤ at + rowMost ⌝ }
 {
     let a = append_natural(number, out, at);
     let b = number_after(32, row.start, out, a);
@@ -88,9 +92,9 @@ pub fn block_line(
     at: usize,
 ) -> usize
     requires { ⌜ IsRow (now file) first row number ⌝ }
-    requires { ⌜ at + 294 ≤ length (now out) ⌝ }
+    requires { ⌜ at + blockLineMost ≤ length (now out) ⌝ }
     ensures { λ r. ⌜ Appended (blockLine (now (file .entry)) number row) at (now (out .entry)) (now (out .exit)) r ⌝ }
-    ensures { λ r. ⌜ r ≤ at + 294 ⌝ }
+    ensures { λ r. ⌜ r ≤ at + blockLineMost ⌝ }
 {
     let a = row_columns(number, row, out, at);
     let b = detail_columns(file, first, row, number, out, a);
@@ -98,7 +102,7 @@ pub fn block_line(
 }
 
 pub fn refused_line(e: Error, out: &mut [u8], at: usize) -> usize
-    requires { ⌜ (e .position < 2 ^ 63) × (at + 50 ≤ length (now out)) ⌝ }
+    requires { ⌜ (e .position < 2 ^ 63) × (at + refusedLineMost ≤ length (now out)) ⌝ }
     ensures { λ r. ⌜ Appended (refusedLine e) at (now (out .entry)) (now (out .exit)) r ⌝ }
 {
     let a = append(b"refused", out, at);
@@ -107,9 +111,9 @@ pub fn refused_line(e: Error, out: &mut [u8], at: usize) -> usize
 }
 
 pub fn count_line(n: usize, out: &mut [u8], at: usize) -> usize
-    requires { ⌜ (n ≤ 256) × (at + 28 ≤ length (now out)) ⌝ }
+    requires { ⌜ (n ≤ blockLimit) × (at + countLineMost ≤ length (now out)) ⌝ }
     ensures { λ r. ⌜ Appended (countLine n) at (now (out .entry)) (now (out .exit)) r ⌝ }
-    ensures { λ r. ⌜ r ≤ at + 28 ⌝ }
+    ensures { λ r. ⌜ r ≤ at + countLineMost ⌝ }
 {
     let a = append(b"blocks", out, at);
     let b = number_after(32, n, out, a);

@@ -1,7 +1,10 @@
 // The listing of a file, into a lent buffer.
+use crate::limits::INPUT_LIMIT;
+use crate::limits::LISTING_ROOM;
 use crate::lines::block_line;
 use crate::lines::count_line;
 use crate::lines::refused_line;
+use blocks::FILE_LIMIT;
 use blocks::Opened;
 use blocks::Row;
 use opening::run::opened;
@@ -14,7 +17,9 @@ ghost use lib.ListN.{length, take};
 ghost use Rattle.scan.specs.Buffer.{lengthWritten, bufferAfter};
 ghost use Rattle.scan.specs.Outcome.{ok};
 ghost use Rattle.text.specs.Answers.{writtenOutcome};
-ghost use Rattle.writer.specs.Append.{Appended};
+ghost use Rattle.append.specs.Append.{Appended};
+ghost use Rattle.blocks.specs.Limits.{blockLimit};
+ghost use Rattle.listing.specs.Limits.{blockLineMost, listingRoom};
 ghost use Rattle.listing.specs.Input.{inputListing};
 ghost use Rattle.listing.specs.Listing.{blockLines, listing, FitsListing};
 ghost use Rattle.listing.specs.Rows.{FileRows};
@@ -22,7 +27,7 @@ ghost use Rattle.listing.specs.Rows.{FileRows};
 // A line for each block of an opened file.
 fn block_lines(file: &[u8], rows: [Row; 256], count: usize, out: &mut [u8], at: usize) -> usize
     requires { ⌜ FileRows (now file) rows count ⌝ }
-    requires { ⌜ at + 294 * 256 ≤ length (now out) ⌝ }
+    requires { ⌜ at + blockLineMost * blockLimit ≤ length (now out) ⌝ }
     ensures { λ r. ⌜ Appended (blockLines (now (file .entry)) 0 (take count rows)) at (now (out .entry)) (now (out .exit)) r ⌝ }
 {
     let mut i = 0;
@@ -34,12 +39,12 @@ fn block_lines(file: &[u8], rows: [Row; 256], count: usize, out: &mut [u8], at: 
     next
 }
 
-// The listing of a file, for which 75,292 bytes are room enough: how many bytes. The file is opened once.
+// The listing of a file, for which LISTING_ROOM bytes are room enough: how many bytes. The file is opened once.
 pub fn put_listing(file: &[u8], out: &mut [u8]) -> usize
-    requires { ⌜ 75292 ≤ length (now out) ⌝ }
+    requires { ⌜ listingRoom ≤ length (now out) ⌝ }
     ensures { λ r. ⌜ Appended (listing (now (file .entry))) 0 (now (out .entry)) (now (out .exit)) r ⌝ }
 {
-    if 1073741824 < file.len() {
+    if FILE_LIMIT < file.len() {
         return refused_line(
             Error {
                 code: 1,
@@ -61,23 +66,23 @@ pub fn put_listing(file: &[u8], out: &mut [u8]) -> usize
     }
 }
 
-// The listing of a file at the front of the lent buffer: how many bytes, at most 75,292. Error 22 where it has no room, and then it
+// The listing of a file at the front of the lent buffer: how many bytes, at most LISTING_ROOM. Error 22 where it has no room, and then it
 // is untouched.
 pub fn list(file: &[u8], out: &mut [u8]) -> Written
     ensures { λ r. ⌜ (writtenOutcome r ≡ lengthWritten (ok (listing (now (file .entry)))) (now (out .entry))) × FitsListing (now (file .entry)) ⌝ }
     ensures { λ _. ⌜ now (out .exit) ≡ bufferAfter (ok (listing (now (file .entry)))) (now (out .entry)) ⌝ }
 {
-    let mut text = [0u8; 75292];
+    let mut text = [0u8; LISTING_ROOM];
     let n = put_listing(file, &mut text);
     buffer::write_bytes(&text[..n], out)
 }
 
-// What the program prints for its input, for which 75,292 bytes are room enough: how many bytes.
+// What the program prints for its input, for which LISTING_ROOM bytes are room enough: how many bytes.
 pub fn put_input_listing(input: &[u8], out: &mut [u8]) -> usize
-    requires { ⌜ 75292 ≤ length (now out) ⌝ }
+    requires { ⌜ listingRoom ≤ length (now out) ⌝ }
     ensures { λ r. ⌜ Appended (inputListing (now (input .entry))) 0 (now (out .entry)) (now (out .exit)) r ⌝ }
 {
-    if 65536 < input.len() {
+    if INPUT_LIMIT < input.len() {
         return refused_line(
             Error {
                 code: 1,

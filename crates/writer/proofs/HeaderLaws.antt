@@ -10,12 +10,12 @@ use Rattle.text.specs.Decimal.{decimal}
 use Rattle.text.specs.Text.{quotedText}
 use Rattle.blocks.specs.IdentityText.{identityText}
 use Rattle.raster.specs.Types.{orderWords}
-use Rattle.writer.specs.File.{frameDims, frameType, dimKeywords, fileData, keywordsOf}
-use Rattle.writer.specs.Front.{keyword, leading, front, titled, closed}
-use Rattle.writer.specs.Render.{Keyword, line, lines, padding, opening, renderedHeader}
-use Rattle.writer.specs.Stored.{shapeDims, IsShape}
-use Rattle.writer.specs.declared.Frame.{Frame}
-use Rattle.writer.specs.declared.dims.Shape.{Shape}
+use Rattle.frame.specs.File.{frameDims, frameType, fileData, keywordsOf}
+use Rattle.writer.specs.Front.{leading, front, titled, closed}
+use Rattle.rendering.specs.Render.{keyword, dimKeywords, Keyword, line, lines, padding, opening, renderedHeader}
+use Rattle.frame.specs.Shape.{shapeDims, IsShape}
+use Rattle.frame.specs.declared.Frame.{Frame}
+use Rattle.frame.specs.declared.dims.Shape.{Shape}
 
 lines-append : (ks js : List Keyword) → lines (ks ++ js) ≡ lines ks ++ lines js
 unfolding lines

@@ -7,13 +7,11 @@ use Rattle.scan.specs.Byte.{ascii}
 use Rattle.text.specs.Decimal.{decimal}
 use Rattle.blocks.specs.IdentityText.{identityText}
 use Rattle.raster.specs.Types.{orderWords}
-use Rattle.writer.specs.File.{frameDims, frameType, dimKeywords}
+use Rattle.frame.specs.File.{frameDims, frameType}
 use Rattle.text.specs.Text.{quotedText}
-use Rattle.writer.specs.Render.{Keyword, lines, padding}
-use Rattle.writer.specs.declared.Frame.{Frame}
-
-abbrev pub keyword : List ℕ → List ℕ → Keyword
-keyword k v = record { key = k; value = v }
+use Rattle.rendering.specs.Most.{numberLineMost, identityLineMost, orderLineMost, typeLineMost, dimLinesMost}
+use Rattle.rendering.specs.Render.{Keyword, keyword, dimKeywords, lines, padding}
+use Rattle.frame.specs.declared.Frame.{Frame}
 
 -- The keywords before Title, for data of a size with its filling.
 unfoldable pub leading : Frame → ℕ → List Keyword
@@ -35,3 +33,13 @@ titled l title = l ++ (quotedText title ++ ascii " ;\r\n")
 -- Lines, closed by "the fewest spaces, CR LF, `}`, LF that make a multiple of 512".
 unfoldable pub closed : List ℕ → List ℕ
 closed l = l ++ (replicate (padding (length l + 4)) 32 ++ ascii "\r\n}\n")
+
+-- ---- How many bytes they take at most
+
+-- The keys EDF_BinarySize and DataRasterConfiguration have 14 and 23 bytes.
+abbrev pub leadingMost : ℕ
+leadingMost = identityLineMost + numberLineMost 14 + orderLineMost + typeLineMost + dimLinesMost + numberLineMost 23
+
+-- `{`, CR, LF before the lines, and `Title = ` after them.
+abbrev pub frontMost : ℕ
+frontMost = 3 + leadingMost + 8

@@ -1,5 +1,2 @@
-pub mod Append
-pub mod File
 pub mod Front
-pub mod Render
-pub mod Stored
+pub mod Parts

@@ -1,14 +1,17 @@
 // A file of one block, written into a lent buffer.
-use crate::Frame;
-use crate::check::frame_allowed;
-use crate::data::put_data;
-use crate::dims::Shape;
-use crate::dims::array_length;
-use crate::dims::filling;
-use crate::dims::shape_of;
+use crate::heading::FRONT_MOST;
 use crate::heading::put_front;
 use crate::heading::put_header;
-use delivery::conversion::width_of;
+use blocks::FILE_LIMIT;
+use frame::Frame;
+use frame::check::frame_allowed;
+use frame::dims::Shape;
+use frame::dims::array_length;
+use frame::dims::shape_of;
+use ordering::data::put_data;
+use raster::types::width_of;
+use rendering::filling::filling;
+use text::TEXT_LIMIT;
 use text::Written;
 use text::buffer::failure;
 use text::escape::all_text_bytes;
@@ -17,35 +20,66 @@ ghost use mathlib.Core.Path.{_≡_};
 ghost use mathlib.Core.Bool.{true, _&&_};
 ghost use mathlib.Core.List.{_++_};
 ghost use Prim.Native.Nat.{_+_, _*_, _≤_};
-ghost use lib.Dec.{eqb};
+ghost use lib.Dec.{eqb, leb};
 ghost use lib.ListN.{length};
 ghost use Rattle.scan.specs.Buffer.{over, lengthWritten, bufferAfter};
+ghost use Rattle.scan.specs.Outcome.{ok};
 ghost use Rattle.text.specs.Answers.{writtenOutcome};
-ghost use Rattle.text.specs.Text.{every, textByte, quotedText};
+ghost use Rattle.text.specs.Text.{quotedText};
 ghost use Rattle.raster.specs.Position.{product};
 ghost use Rattle.raster.specs.Types.{typeOf};
-ghost use Rattle.writer.specs.File.{frameDims, frameType, frameAllowed, fileData, writtenFile};
-ghost use Rattle.writer.specs.Front.{titled, closed};
-ghost use Rattle.writer.specs.Render.{padding};
-ghost use Rattle.writer.specs.Stored.{shapeDims, IsShape};
+ghost use Rattle.rendering.specs.Render.{padding};
+ghost use Rattle.frame.specs.File.{frameDims, frameType, frameAllowed, fileData, fileOf, writtenFile};
+ghost use Rattle.blocks.specs.Limits.{fileLimit};
+ghost use Rattle.text.specs.Text.{textLimit};
+ghost use Rattle.frame.specs.Shape.{shapeDims, IsShape};
+ghost use Rattle.writer.specs.Front.{titled, closed, frontMost};
+ghost use Rattle.writer.specs.Parts.{frameFits, argumentsAllowed, shortTitled, limited, Ready};
 
-// Whether the frame, the pixels' length and the title's bytes are allowed.
-fn arguments_allowed(f: Frame, title: &[u8], pixels: &[u8]) -> bool
-    ensures { λ r. ⌜ r ≡ (frameAllowed f && eqb (length (now (pixels .entry))) (product (frameDims f) * frameType f .width) && every textByte (now (title .entry))) ⌝ }
+// ---- The checks
+
+// Whether the pixels are as long as the frame says.
+fn pixels_whole(f: Frame, pixels: &[u8]) -> bool
+    requires { ⌜ frameAllowed f ≡ true ⌝ }
+    ensures { λ r. ⌜ r ≡ eqb (length (now (pixels .entry))) (product (frameDims f) * frameType f .width) ⌝ }
+{
+    pixels.len() == array_length(shape_of(f), width_of(f.datatype))
+}
+
+fn frame_fits(f: Frame, pixels: &[u8]) -> bool
+    ensures { λ r. ⌜ r ≡ frameFits f (now (pixels .entry)) ⌝ }
 {
     if !frame_allowed(f) {
         return false;
     }
-    let size = array_length(shape_of(f), width_of(f.datatype));
-    if pixels.len() != size {
+    pixels_whole(f, pixels)
+}
+
+// Whether the frame, the pixels' length and the title's bytes are allowed.
+fn arguments_allowed(f: Frame, title: &[u8], pixels: &[u8]) -> bool
+    ensures { λ r. ⌜ r ≡ argumentsAllowed f (now (title .entry)) (now (pixels .entry)) ⌝ }
+{
+    if !frame_fits(f, pixels) {
         return false;
     }
     all_text_bytes(title)
 }
 
+// Whether data of a size and the title are each in the limit of a file.
+fn parts_fit(size: usize, title: &[u8]) -> bool
+    ensures { λ r. ⌜ r ≡ (leb size fileLimit && leb (length (now (title .entry))) fileLimit) ⌝ }
+{
+    if size > FILE_LIMIT {
+        return false;
+    }
+    title.len() <= FILE_LIMIT
+}
+
+// ---- The file
+
 // How long a file is: n bytes of its header, then the title and the rest of it, and data of a size.
 fn file_length(n: usize, title: &[u8], size: usize) -> usize
-    requires { ⌜ (n ≤ 332) × (length (now title) ≤ 1073741824) × (size ≤ 1073741824) ⌝ }
+    requires { ⌜ (n ≤ frontMost) × (length (now title) ≤ fileLimit) × (size ≤ fileLimit) ⌝ }
     ensures { λ r. ⌜ r ≡ n + length (quotedText (now (title .entry))) + 8 + padding (n + length (quotedText (now (title .entry))) + 8) + size ⌝ }
 {
     let end = n + escaped_length(title) + 10;
@@ -55,12 +89,85 @@ fn file_length(n: usize, title: &[u8], size: usize) -> usize
 // The header, of its front and the title, and the data.
 fn put_file(f: Frame, s: Shape, first: &[u8], title: &[u8], pixels: &[u8], out: &mut [u8])
     requires { ⌜ (frameAllowed f ≡ true) × IsShape f s × (length (now pixels) ≡ product (shapeDims s) * typeOf (f .datatype) .width) ⌝ }
-    requires { ⌜ (length (now first) ≤ 332) × (length (now title) ≤ 1023) ⌝ }
+    requires { ⌜ (length (now first) ≤ frontMost) × (length (now title) ≤ textLimit) ⌝ }
     requires { ⌜ length (closed (titled (now first) (now title)) ++ fileData f (now pixels)) ≤ length (now out) ⌝ }
     ensures { λ _. ⌜ now (out .exit) ≡ over (closed (titled (now (first .entry)) (now (title .entry))) ++ fileData f (now (pixels .entry))) (now (out .entry)) ⌝ }
 {
     let at = put_header(first, title, out);
     put_data(f, s, pixels, out, at);
+}
+
+// ---- Writing, one check after another
+
+// Error 22 where the buffer has no room.
+fn write_whole(
+    f: Frame,
+    s: Shape,
+    first: &[u8],
+    title: &[u8],
+    pixels: &[u8],
+    total: usize,
+    out: &mut [u8],
+) -> Written
+    requires { ⌜ Ready f s (now first) (now title) (now pixels) total × (length (now title) ≤ textLimit) ⌝ }
+    ensures { λ r. ⌜ writtenOutcome r ≡ lengthWritten (ok (fileOf f (now (title .entry)) (now (pixels .entry)))) (now (out .entry)) ⌝ }
+    ensures { λ _. ⌜ now (out .exit) ≡ bufferAfter (ok (fileOf f (now (title .entry)) (now (pixels .entry)))) (now (out .entry)) ⌝ }
+{
+    if total > out.len() {
+        return failure(22);
+    }
+    put_file(f, s, first, title, pixels, out);
+    Written::Length(total)
+}
+
+// Error 25 before it.
+fn write_short(
+    f: Frame,
+    s: Shape,
+    first: &[u8],
+    title: &[u8],
+    pixels: &[u8],
+    total: usize,
+    out: &mut [u8],
+) -> Written
+    requires { ⌜ Ready f s (now first) (now title) (now pixels) total ⌝ }
+    ensures { λ r. ⌜ writtenOutcome r ≡ lengthWritten (shortTitled (now (title .entry)) (fileOf f (now (title .entry)) (now (pixels .entry)))) (now (out .entry)) ⌝ }
+    ensures { λ _. ⌜ now (out .exit) ≡ bufferAfter (shortTitled (now (title .entry)) (fileOf f (now (title .entry)) (now (pixels .entry)))) (now (out .entry)) ⌝ }
+{
+    if title.len() > TEXT_LIMIT {
+        return failure(25);
+    }
+    write_whole(f, s, first, title, pixels, total, out)
+}
+
+// Error 24 for the file's length before them.
+fn write_sized(f: Frame, title: &[u8], pixels: &[u8], size: usize, out: &mut [u8]) -> Written
+    requires { ⌜ argumentsAllowed f (now title) (now pixels) ≡ true ⌝ }
+    requires { ⌜ (size ≡ length (fileData f (now pixels))) × (size ≤ fileLimit) × (length (now title) ≤ fileLimit) ⌝ }
+    ensures { λ r. ⌜ writtenOutcome r ≡ lengthWritten (limited (now (title .entry)) (fileOf f (now (title .entry)) (now (pixels .entry)))) (now (out .entry)) ⌝ }
+    ensures { λ _. ⌜ now (out .exit) ≡ bufferAfter (limited (now (title .entry)) (fileOf f (now (title .entry)) (now (pixels .entry)))) (now (out .entry)) ⌝ }
+{
+    let s = shape_of(f);
+    let mut first = [0u8; FRONT_MOST];
+    let n = put_front(f, s, size, &mut first);
+    let total = file_length(n, title, size);
+    if total > FILE_LIMIT {
+        return failure(24);
+    }
+    write_short(f, s, &first[..n], title, pixels, total, out)
+}
+
+// Of arguments that are allowed. A part that is over the limit makes a file that is.
+fn write_allowed(f: Frame, title: &[u8], pixels: &[u8], out: &mut [u8]) -> Written
+    requires { ⌜ argumentsAllowed f (now title) (now pixels) ≡ true ⌝ }
+    ensures { λ r. ⌜ writtenOutcome r ≡ lengthWritten (limited (now (title .entry)) (fileOf f (now (title .entry)) (now (pixels .entry)))) (now (out .entry)) ⌝ }
+    ensures { λ _. ⌜ now (out .exit) ≡ bufferAfter (limited (now (title .entry)) (fileOf f (now (title .entry)) (now (pixels .entry)))) (now (out .entry)) ⌝ }
+{
+    let size = pixels.len() + filling(pixels.len());
+    if !parts_fit(size, title) {
+        return failure(24);
+    }
+    write_sized(f, title, pixels, size, out)
 }
 
 // The file of a frame, its title and its pixels, in configuration 1 and with the high byte first, at the front of the buffer.
@@ -72,26 +179,5 @@ pub fn write(frame: Frame, title: &[u8], pixels: &[u8], out: &mut [u8]) -> Writt
     if !arguments_allowed(frame, title, pixels) {
         return failure(24);
     }
-    let s = shape_of(frame);
-    let size = pixels.len() + filling(pixels.len());
-    if size > 1073741824 {
-        return failure(24);
-    }
-    if title.len() > 1073741824 {
-        return failure(24);
-    }
-    let mut first = [0u8; 332];
-    let n = put_front(frame, s, size, &mut first);
-    let length = file_length(n, title, size);
-    if length > 1073741824 {
-        return failure(24);
-    }
-    if title.len() > 1023 {
-        return failure(25);
-    }
-    if length > out.len() {
-        return failure(22);
-    }
-    put_file(frame, s, &first[..n], title, pixels, out);
-    Written::Length(length)
+    write_allowed(frame, title, pixels, out)
 }

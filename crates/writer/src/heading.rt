@@ -1,32 +1,49 @@
 // The header of a written file.
-use crate::Frame;
-use crate::append::append;
-use crate::append::append_repeated;
-use crate::dims::Shape;
-use crate::dims::filling;
-use crate::lines::dim_lines;
-use crate::lines::identity_line;
-use crate::lines::number_line;
-use crate::lines::order_line;
-use crate::lines::type_line;
+use append::bytes::DECIMAL_MOST;
+use append::bytes::append;
+use append::bytes::append_repeated;
+use append::words::IDENTITY_MOST;
+use append::words::ORDER_MOST;
+use append::words::TYPE_MOST;
+use frame::Frame;
+use frame::dims::Shape;
+use rendering::filling::filling;
+use rendering::lines::dim_lines;
+use rendering::lines::identity_line;
+use rendering::lines::number_line;
+use rendering::lines::order_line;
+use rendering::lines::type_line;
 use text::escape::write_quoted;
 ghost use mathlib.Core.Path.{_≡_};
 ghost use mathlib.Core.Bool.{true};
 ghost use Prim.Native.Nat.{_+_, _≤_};
 ghost use lib.ListN.{length};
 ghost use Rattle.text.specs.Text.{quotedText};
-ghost use Rattle.writer.specs.Append.{Appended};
-ghost use Rattle.writer.specs.File.{frameAllowed};
-ghost use Rattle.writer.specs.Front.{leading, front, titled, closed};
-ghost use Rattle.writer.specs.Render.{lines};
-ghost use Rattle.writer.specs.Stored.{IsShape};
+ghost use Rattle.append.specs.Append.{Appended};
+ghost use Rattle.frame.specs.File.{frameAllowed};
+ghost use Rattle.blocks.specs.Limits.{fileLimit};
+ghost use Rattle.text.specs.Text.{textLimit};
+ghost use Rattle.writer.specs.Front.{leading, front, titled, closed, leadingMost, frontMost};
+ghost use Rattle.rendering.specs.Render.{lines};
+ghost use Rattle.frame.specs.Shape.{IsShape};
+
+// How many bytes the lines before the title take at most, and the front of a header (`specs/Front`). A line has 7 bytes beside its
+// key and its value.
+const LEADING_MOST: usize = (15 + IDENTITY_MOST + 7)
+    + (14 + DECIMAL_MOST + 7)
+    + (9 + ORDER_MOST + 7)
+    + (8 + TYPE_MOST + 7)
+    + 3 * (5 + DECIMAL_MOST + 7)
+    + (23 + DECIMAL_MOST + 7);
+
+pub const FRONT_MOST: usize = 3 + LEADING_MOST + 8;
 
 // The lines before the title.
 fn put_leading(f: Frame, s: Shape, size: usize, out: &mut [u8], at: usize) -> usize
-    requires { ⌜ (frameAllowed f ≡ true) × IsShape f s × (size ≤ 1073741824) ⌝ }
-    requires { ⌜ at + 321 ≤ length (now out) ⌝ }
+    requires { ⌜ (frameAllowed f ≡ true) × IsShape f s × (size ≤ fileLimit) ⌝ }
+    requires { ⌜ at + leadingMost ≤ length (now out) ⌝ }
     ensures { λ r. ⌜ Appended (lines (leading f size)) at (now (out .entry)) (now (out .exit)) r ⌝ }
-    ensures { λ r. ⌜ r ≤ at + 321 ⌝ }
+    ensures { λ r. ⌜ r ≤ at + leadingMost ⌝ }
 {
     let a = identity_line(f.sequence, f.instance, f.memory, out, at);
     let b = number_line(b"EDF_BinarySize", size, out, a);
@@ -38,10 +55,10 @@ fn put_leading(f: Frame, s: Shape, size: usize, out: &mut [u8], at: usize) -> us
 
 // The header up to the value of Title.
 pub fn put_front(f: Frame, s: Shape, size: usize, out: &mut [u8]) -> usize
-    requires { ⌜ (frameAllowed f ≡ true) × IsShape f s × (size ≤ 1073741824) ⌝ }
-    requires { ⌜ 332 ≤ length (now out) ⌝ }
+    requires { ⌜ (frameAllowed f ≡ true) × IsShape f s × (size ≤ fileLimit) ⌝ }
+    requires { ⌜ frontMost ≤ length (now out) ⌝ }
     ensures { λ r. ⌜ Appended (front f size) 0 (now (out .entry)) (now (out .exit)) r ⌝ }
-    ensures { λ r. ⌜ r ≤ 332 ⌝ }
+    ensures { λ r. ⌜ r ≤ frontMost ⌝ }
 {
     let a = append(b"{\r\n", out, 0);
     let b = put_leading(f, s, size, out, a);
@@ -49,7 +66,7 @@ pub fn put_front(f: Frame, s: Shape, size: usize, out: &mut [u8]) -> usize
 }
 
 fn put_quoted(title: &[u8], out: &mut [u8], at: usize) -> usize
-    requires { ⌜ (length (now title) ≤ 1023) × (at + length (quotedText (now title)) ≤ length (now out)) ⌝ }
+    requires { ⌜ (length (now title) ≤ textLimit) × (at + length (quotedText (now title)) ≤ length (now out)) ⌝ }
     ensures { λ r. ⌜ Appended (quotedText (now (title .entry))) at (now (out .entry)) (now (out .exit)) r ⌝ }
 {
     write_quoted(title, &mut out[at..]);
@@ -58,7 +75,7 @@ fn put_quoted(title: &[u8], out: &mut [u8], at: usize) -> usize
 
 // The whole header, of its front and the title.
 pub fn put_header(first: &[u8], title: &[u8], out: &mut [u8]) -> usize
-    requires { ⌜ (length (now first) ≤ 332) × (length (now title) ≤ 1023) ⌝ }
+    requires { ⌜ (length (now first) ≤ frontMost) × (length (now title) ≤ textLimit) ⌝ }
     requires { ⌜ length (closed (titled (now first) (now title))) ≤ length (now out) ⌝ }
     ensures { λ r. ⌜ Appended (closed (titled (now (first .entry)) (now (title .entry)))) 0 (now (out .entry)) (now (out .exit)) r ⌝ }
 {

@@ -1,6 +1,6 @@
 -- `edf_list::main` is safe and ends.
 use borrow.Author.Needs.{needs}
-use Rattle.writer.proofs.Appending.{front-length}
+use Rattle.append.proofs.Appending.{front-length}
 use Rattle.edf_list.proofs.main.Statement.{statement}
 use Rattle.edf_list.proofs.main.Tie as tie
 

@@ -1,7 +1,7 @@
 -- `listing::lines::block_line` meets its contract.
 use borrow.Author.Needs.{needs}
-use Rattle.writer.proofs.Appending.{appended-then, appended-is}
-use Rattle.listing.proofs.ColumnLaws.{block-line-is}
+use Rattle.append.proofs.Appending.{appended-then, appended-is}
+use Rattle.listing.proofs.LineLaws.{block-line-is}
 use native.Mathlib.Omega.{arith}
 use Rattle.listing.proofs.RowLaws.{row-description}
 use Rattle.listing.proofs.lines.block_line.Statement.{statement}

@@ -1,7 +1,7 @@
 -- `listing::lines::count_line` meets its contract.
 use borrow.Author.Needs.{needs}
-use Rattle.writer.proofs.Appending.{appended-then, appended-is}
-use Rattle.listing.proofs.ColumnLaws.{count-line-is}
+use Rattle.append.proofs.Appending.{appended-then, appended-is}
+use Rattle.listing.proofs.LineLaws.{count-line-is}
 use native.Mathlib.Omega.{arith}
 use Rattle.listing.proofs.lines.count_line.Statement.{statement}
 use Rattle.listing.proofs.lines.count_line.Tie as tie

@@ -1,10 +1,10 @@
 -- `listing::lines::detail_columns` meets its contract.
 use borrow.Author.Needs.{needs}
-use Rattle.writer.proofs.Appending.{appended-is, appended-nothing}
-use Rattle.listing.proofs.ColumnLaws.{no-details}
+use Rattle.append.proofs.Appending.{appended-is, appended-nothing}
+use Rattle.listing.proofs.LineLaws.{no-details}
 use native.Mathlib.Omega.{arith}
 use mathlib.Core.Path.{sym, ap, _∙_}
-use Rattle.array.specs.Answers.{describedOutcome}
+use Rattle.description.specs.Answers.{describedOutcome}
 use Rattle.listing.proofs.RowLaws.{row-answered, row-refused, array-details, details-as}
 use Rattle.listing.proofs.lines.detail_columns.Statement.{statement}
 use Rattle.listing.proofs.lines.detail_columns.Tie as tie

@@ -1,7 +1,7 @@
 -- `listing::lines::refused_columns` meets its contract.
 use borrow.Author.Needs.{needs}
-use Rattle.writer.proofs.Appending.{appended-then, appended-is}
-use Rattle.listing.proofs.ColumnLaws.{refused-is}
+use Rattle.append.proofs.Appending.{appended-then, appended-is}
+use Rattle.listing.proofs.LineLaws.{refused-is}
 use native.Mathlib.Omega.{arith}
 use Rattle.listing.proofs.lines.refused_columns.Statement.{statement}
 use Rattle.listing.proofs.lines.refused_columns.Tie as tie

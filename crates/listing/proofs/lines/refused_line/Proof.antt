@@ -1,7 +1,7 @@
 -- `listing::lines::refused_line` meets its contract.
 use borrow.Author.Needs.{needs}
-use Rattle.writer.proofs.Appending.{appended-then, appended-is}
-use Rattle.listing.proofs.ColumnLaws.{refused-line-is}
+use Rattle.append.proofs.Appending.{appended-then, appended-is}
+use Rattle.listing.proofs.LineLaws.{refused-line-is}
 use Rattle.listing.proofs.lines.refused_line.Statement.{statement}
 use Rattle.listing.proofs.lines.refused_line.Tie as tie
 

@@ -1,7 +1,7 @@
 -- `listing::lines::row_columns` meets its contract.
 use borrow.Author.Needs.{needs}
-use Rattle.writer.proofs.Appending.{appended-then, appended-is}
-use Rattle.listing.proofs.ColumnLaws.{row-is}
+use Rattle.append.proofs.Appending.{appended-then, appended-is}
+use Rattle.listing.proofs.LineLaws.{row-is}
 use native.Mathlib.Omega.{arith}
 use lib.IntN.{pos}
 use Rattle.text.specs.Decimal.{decimal}

@@ -1,6 +1,6 @@
 -- `listing::list::block_lines` meets its contract.
 use borrow.Author.Needs.{needs}
-use Rattle.writer.proofs.Appending.{appended-length}
+use Rattle.append.proofs.Appending.{appended-length}
 use Rattle.listing.proofs.Listed.{Listed, listed-none, listed-row, listed-file}
 use Rattle.listing.proofs.RowLaws.{is-row}
 use native.Mathlib.Omega.{arith}
@@ -8,10 +8,11 @@ use Prim.Native.Nat.{_+_, _-_, _*_, _≤_}
 use lib.ListN.{take}
 use Rattle.listing.proofs.list.block_lines.Statement.{statement}
 use Rattle.listing.proofs.list.block_lines.Tie as tie
+use Rattle.listing.specs.Limits.{blockLineMost}
 
 abbrev Inv-loop : tie.InvT-loop
 Inv-loop file count out₀ at rows i₀ next₀ out i next =
-    ((i ≤ count) × (next ≤ at + 294 * i)) × Listed file (take count rows) i at next out₀ out
+    ((i ≤ count) × (next ≤ at + blockLineMost * i)) × Listed file (take count rows) i at next out₀ out
 
 abbrev μ-loop : tie.MeasureT-loop
 μ-loop file count out₀ at rows i₀ next₀ out i next = count - i

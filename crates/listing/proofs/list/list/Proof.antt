@@ -1,6 +1,6 @@
 -- `listing::list::list` meets its contract.
 use borrow.Author.Needs.{needs}
-use Rattle.writer.proofs.Appending.{front-is, front-length}
+use Rattle.append.proofs.Appending.{front-is, front-length}
 use native.Mathlib.Omega.{arith}
 use mathlib.Core.Path.{ap, _∙_}
 use mathlib.Core.List.{List}

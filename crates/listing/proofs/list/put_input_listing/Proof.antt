@@ -1,6 +1,6 @@
 -- `listing::list::put_input_listing` meets its contract.
 use borrow.Author.Needs.{needs}
-use Rattle.writer.proofs.Appending.{appended-is}
+use Rattle.append.proofs.Appending.{appended-is}
 use Rattle.listing.proofs.RowLaws.{input-too-large, input-small}
 use Rattle.listing.proofs.list.put_input_listing.Statement.{statement}
 use Rattle.listing.proofs.list.put_input_listing.Tie as tie

@@ -1,6 +1,6 @@
 -- `listing::list::put_listing` meets its contract.
 use borrow.Author.Needs.{needs}
-use Rattle.writer.proofs.Appending.{appended-then, appended-is}
+use Rattle.append.proofs.Appending.{appended-then, appended-is}
 use native.Mathlib.Omega.{arith}
 use Rattle.listing.proofs.RowLaws.{file-rows, error-small, listing-too-large, listing-failed, listing-opened}
 use Rattle.keyword.proofs.Views.{opening-few}

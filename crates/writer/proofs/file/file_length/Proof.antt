@@ -6,8 +6,8 @@ use Prim.Native.Nat.{_+_}
 use lib.ListN.{length}
 use Rattle.text.specs.Text.{quotedText}
 use Rattle.text.proofs.Escaping.{at-most-twice, quoted-length}
-use Rattle.writer.specs.Render.{padding}
-use Rattle.writer.proofs.Keywords.{padding-small}
+use Rattle.rendering.specs.Render.{padding}
+use Rattle.rendering.proofs.Padding.{padding-small}
 use Rattle.writer.proofs.file.file_length.Statement.{statement}
 use Rattle.writer.proofs.file.file_length.Tie as tie
 

@@ -1,9 +1,9 @@
 -- `writer::file::put_file` meets its contract.
 use borrow.Author.Needs.{needs}
-use Rattle.writer.proofs.Appending.{appended-then, appended-length, appended-front, next-length}
+use Rattle.append.proofs.Appending.{appended-then, appended-length, appended-front, next-length}
 use native.Mathlib.Omega.{arith}
 use lib.ListN.{length-append}
-use Rattle.writer.specs.File.{fileData}
+use Rattle.frame.specs.File.{fileData}
 use Rattle.writer.specs.Front.{titled, closed}
 use Rattle.writer.proofs.file.put_file.Statement.{statement}
 use Rattle.writer.proofs.file.put_file.Tie as tie

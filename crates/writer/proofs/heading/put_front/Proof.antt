@@ -1,6 +1,6 @@
 -- `writer::heading::put_front` meets its contract.
 use borrow.Author.Needs.{needs}
-use Rattle.writer.proofs.Appending.{appended-then, appended-is}
+use Rattle.append.proofs.Appending.{appended-then, appended-is}
 use Rattle.writer.proofs.HeaderLaws.{front-is}
 use native.Mathlib.Omega.{arith}
 use Prim.Native.Nat.{_-_}

@@ -1,12 +1,12 @@
 -- `writer::heading::put_header` meets its contract.
 use borrow.Author.Needs.{needs}
-use Rattle.writer.proofs.Appending.{appended-then, appended-is, appended-length, next-length}
+use Rattle.append.proofs.Appending.{appended-then, appended-is, appended-length, next-length}
 use Rattle.writer.proofs.HeaderLaws.{titled-is, titled-length, closed-is, closed-length}
 use mathlib.Core.Path.{ap, _∙_}
 use native.Mathlib.Omega.{arith}
 use Prim.Native.Nat.{ℕ, _+_, _-_}
 use lib.ListN.{length-replicate}
-use Rattle.writer.specs.Render.{padding}
+use Rattle.rendering.specs.Render.{padding}
 use Rattle.writer.specs.Front.{titled}
 use Rattle.writer.proofs.heading.put_header.Statement.{statement}
 use Rattle.writer.proofs.heading.put_header.Tie as tie

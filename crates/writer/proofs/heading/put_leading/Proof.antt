@@ -1,13 +1,13 @@
 -- `writer::heading::put_leading` meets its contract.
 use borrow.Author.Needs.{needs}
-use Rattle.writer.proofs.Appending.{appended-then, appended-is, appended-length}
+use Rattle.append.proofs.Appending.{appended-then, appended-is, appended-length}
 use Rattle.writer.proofs.HeaderLaws.{leading-is}
-use Rattle.writer.proofs.Sizes.{allowed}
+use Rattle.frame.proofs.ShapeLaws.{allowed}
 use native.Mathlib.Omega.{arith}
 use Prim.Native.Nat.{_-_}
 use mir.Syntax.{w64}
 use mir.ValLaws.{toZ-ofZ}
-use Rattle.writer.proofs.Described.{few-configurations}
+use Rattle.frame.proofs.Allowed.{few-configurations}
 use Rattle.writer.proofs.heading.put_leading.Statement.{statement}
 use Rattle.writer.proofs.heading.put_leading.Tie as tie
 

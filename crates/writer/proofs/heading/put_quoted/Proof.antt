@@ -1,6 +1,6 @@
 -- `writer::heading::put_quoted` meets its contract.
 use borrow.Author.Needs.{needs}
-use Rattle.writer.proofs.Appending.{part-appended}
+use Rattle.append.proofs.Appending.{part-appended}
 use mathlib.Core.Path.{_≡_}
 use native.Mathlib.Omega.{arith}
 use Prim.Native.Nat.{_+_, _-_}

@@ -1,0 +1,44 @@
+-- `append::words::append_instance` meets its contract.
+use borrow.Author.Needs.{needs}
+use Rattle.append.proofs.Appending.{appended-is}
+use Rattle.append.proofs.WordLaws.{instance-psd, instance-error}
+use native.Mathlib.Omega.{arith}
+use Rattle.append.proofs.words.append_instance.Statement.{statement}
+use Rattle.append.proofs.words.append_instance.Tie as tie
+
+slice-aggregate-append : tie.Need-slice-aggregate-append
+slice-aggregate-append c = search needs
+
+append-requires : tie.Need-append-requires
+append-requires c κs = search needs
+
+same-length : tie.Need-same-length
+same-length c = search needs
+
+returns : tie.Need-returns
+returns c = let a = c .before .before .append .ensures in (appended-is (instance-psd _ (c .before .before .before .before .before .if1 .taken)) a, omega (arith, a .next-is))
+
+slice-aggregate-append-2 : tie.Need-slice-aggregate-append-2
+slice-aggregate-append-2 c = search needs
+
+append-requires-2 : tie.Need-append-requires-2
+append-requires-2 c κs = search needs
+
+same-length-2 : tie.Need-same-length-2
+same-length-2 c = search needs
+
+returns-2 : tie.Need-returns-2
+returns-2 c = let a = c .before .before .append2 .ensures in (appended-is (instance-error _ (c .before .before .before .before .before .if1 .left)) a, omega (arith, a .next-is))
+
+pub append-instance-spec : {M : Type 1} → statement M
+append-instance-spec =
+    tie.close
+    (tie.spec
+    slice-aggregate-append
+    append-requires
+    same-length
+    returns
+    slice-aggregate-append-2
+    append-requires-2
+    same-length-2
+    returns-2)

@@ -1,0 +1,6 @@
+pub mod Allowed
+pub mod Codes
+pub mod FrameChecks
+pub mod PixelLengths
+pub mod ShapeLaws
+pub mod Sizes

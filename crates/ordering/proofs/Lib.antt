@@ -1,0 +1,4 @@
+pub mod AxisLaws
+pub mod Orders
+pub mod StoredOrder
+pub mod Walks

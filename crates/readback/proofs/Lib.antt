@@ -1,0 +1,6 @@
+pub mod Described
+pub mod Keywords
+pub mod Main
+pub mod Pixels
+pub mod Viewed
+pub mod Written

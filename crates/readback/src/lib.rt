@@ -1,0 +1,1 @@
+// What is written reads back: theorems only, in `proofs/Main`.

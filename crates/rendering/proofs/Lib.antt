@@ -1,0 +1,3 @@
+pub mod LineLaws
+pub mod Padding
+pub mod Rendered

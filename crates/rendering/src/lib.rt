@@ -1,0 +1,4 @@
+// The text of a header, line by line.
+
+pub mod filling;
+pub mod lines;
