@@ -8,8 +8,7 @@
  * a file must not change during a call: a file that another program may still write is to be read, not mapped.
  *
  * Calls with `file` and `block` judge the whole file first: its errors are "those of opening", 1 and 3 to 15, with their positions.
- * Blocks are numbered from 0. Every call may be made from several threads at once. No call keeps anything, but for the threads that help
- * with large images (edf_image_read): they stay asleep for a tenth of a second, for the next one.
+ * Blocks are numbered from 0. Every call may be made from several threads at once. No call keeps anything.
  */
 #ifndef EDF_H
 #define EDF_H
@@ -130,11 +129,22 @@ uint8_t edf_unescape(const uint8_t *value, size_t value_length, uint8_t *out, si
 
 /* ---- Arrays */
 
-/* The description of a block's array: its data type, byte order, compression, `n` dimensions (those past `n` are 1), raster
- * configuration, raster orientation and value offset. Errors: those of opening, 16 to 21. */
-uint8_t edf_describe(const uint8_t *file, size_t file_length, size_t block, uint8_t *datatype, uint8_t *byteorder,
-                     uint8_t *compression, uint8_t *n, size_t *dim1, size_t *dim2, size_t *dim3, uint32_t *configuration,
-                     uint32_t *orientation, int64_t *offset, size_t *position);
+/* The description of a block's array. The dimensions past `n` are 1. */
+typedef struct {
+    uint64_t datatype;      /* EDF_UNSIGNED_BYTE to EDF_FLOAT_IEEE64 */
+    uint64_t byteorder;     /* EDF_HIGH_BYTE_FIRST or EDF_LOW_BYTE_FIRST */
+    uint64_t compression;   /* EDF_COMPRESSION_NONE */
+    uint64_t n;             /* the number of dimensions, 1 to 3 */
+    uint64_t dim1;          /* elements along index 1 */
+    uint64_t dim2;          /* elements along index 2 */
+    uint64_t dim3;          /* elements along index 3 */
+    uint64_t configuration; /* the raster configuration, in which the array is stored */
+    uint64_t orientation;   /* the raster orientation, reported and not applied */
+    int64_t offset;         /* the value offset, added to each element that is delivered */
+} edf_description;
+
+/* Describes the array of a block. In an error *description stays as it was. Errors: those of opening, 16 to 21. */
+uint8_t edf_describe(const uint8_t *file, size_t file_length, size_t block, edf_description *description, size_t *position);
 
 /* The array of a block at the front of `out`, in raster configuration 1 (index 1 runs fastest), with its value offset added, in the
  * byte order `order`; *length is its bytes, dim1 * dim2 * dim3 * edf_datatype_width(datatype). Errors: those of edf_describe, 24 (a
@@ -145,10 +155,8 @@ uint8_t edf_read_array(const uint8_t *file, size_t file_length, size_t block, ui
 /* The array of a block as it is stored: its description, as edf_describe gives it, and its bytes, the *length bytes of the file from
  * *start on. *delivered is 1 where these are just the bytes that edf_read_array gives in the byte order `order`, so that nothing
  * need be copied; else 0. Errors: those of edf_describe, 24 (a bad order). */
-uint8_t edf_stored_array(const uint8_t *file, size_t file_length, size_t block, uint8_t order, uint8_t *datatype, uint8_t *byteorder,
-                         uint8_t *compression, uint8_t *n, size_t *dim1, size_t *dim2, size_t *dim3, uint32_t *configuration,
-                         uint32_t *orientation, int64_t *offset, size_t *start, size_t *length, uint8_t *delivered,
-                         size_t *position);
+uint8_t edf_stored_array(const uint8_t *file, size_t file_length, size_t block, uint8_t order, edf_description *description,
+                         size_t *start, size_t *length, uint8_t *delivered, size_t *position);
 
 /* One pixel of a block's array, at an index of three numbers from 0; those past the array's dimensions are 0. *class_ is
  * EDF_UNSIGNED, EDF_SIGNED, EDF_FLOAT32 or EDF_FLOAT64, and the number of that class is set; the numbers of the other classes stay
@@ -175,35 +183,24 @@ uint8_t edf_write(int64_t sequence, uint8_t instance, int64_t memory, uint8_t da
 enum { EDF_NO_TEXT = 255 };
 uint8_t edf_keywords(const uint8_t *header, size_t header_length, uint8_t *out, size_t out_length, size_t *length, size_t *position);
 
-/* An image by the path of its file, on POSIX systems; no other program may change the file meanwhile. The errors are those of the
- * calls above, or EDF_SYSTEM_ERROR: a call of the system failed, and errno says why.
- *
- * edf_image_open opens a regular file: its descriptor and `file_length`. Then one of two calls judges it, and describes the array of
- * a block in a byte order (edf_stored_array): edf_image_map maps the file; edf_image_load reads it whole into `memory`, which has
- * `file_length` bytes and is lent as long as the image is used, and closes it. edf_image_read puts the `length` bytes of the array at the front of `out`:
- * where they are stored as they are asked for, they are read from the file, those of 3 MiB and more by several threads at once, as many
- * as the calling thread has processors and at most four; else edf_read_array makes them. edf_image_close lets all go; after an error of the calls between, too. */
+/* An image by the path of its file, on POSIX systems; no other program may change the file while it is open. edf_image_open maps a
+ * regular file, judges it, and describes the array of a block in the byte order `order` (edf_stored_array). edf_image_read puts the
+ * `length` bytes of the array at the front of `out`: where they are stored as they are asked for, they are read from the file, else
+ * edf_read_array makes them. edf_image_close lets the file go. Errors: those of edf_stored_array, for edf_image_read 22, or
+ * EDF_SYSTEM_ERROR: a call of the system failed, errno says why, and *position stays as it was; errno is EIO where the file ends
+ * before its array. After an error of edf_image_open nothing is open, and *image is as it was. */
 enum { EDF_SYSTEM_ERROR = 255 };
 typedef struct {
-    uint8_t datatype, byteorder, compression, n;
-    uint32_t configuration, orientation;
-    size_t dim1, dim2, dim3;
-    int64_t offset;
+    edf_description description;
     size_t start, length;
-    uint8_t delivered, order, mapped;
-    int descriptor;
     size_t block, file_length;
     const uint8_t *file;
+    int descriptor;
+    uint8_t order, delivered;
 } edf_image;
-uint8_t edf_image_open(const char *path, edf_image *image);
-uint8_t edf_image_map(edf_image *image, size_t block, uint8_t order, size_t *position);
-uint8_t edf_image_load(edf_image *image, uint8_t *memory, size_t block, uint8_t order, size_t *position);
+uint8_t edf_image_open(const char *path, size_t block, uint8_t order, edf_image *image, size_t *position);
 uint8_t edf_image_read(const edf_image *image, uint8_t *out, size_t out_length, size_t *position);
 void edf_image_close(edf_image *image);
-
-/* The bytes of an open file from an offset on, large parts by several threads at once: EDF_OK, or EDF_SYSTEM_ERROR and errno, which is
- * EIO where the file ends before. */
-uint8_t edf_read_bytes(int descriptor, uint64_t offset, uint8_t *out, size_t length);
 
 /* The words for the code of an error, which like those below live as long as the program; "no error" for 0, "unknown code" above 25. */
 const char *edf_words(uint8_t code);

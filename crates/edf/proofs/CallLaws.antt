@@ -33,15 +33,17 @@ use Rattle.keyword.specs.declared.Located.{Located}
 use Rattle.keyword.specs.declared.Located.the-variants as located
 use Rattle.keyword.specs.declared.Number.{Number}
 use Rattle.keyword.specs.declared.Number.the-variants as number
-use Rattle.array.specs.Answers.{describedOutcome, sampledOutcome}
-use Rattle.array.specs.Delivery.{arrayType, arrayDims, dataOf, arrayOf, arrayIn, isIndex, pixelIn}
-use Rattle.array.specs.Describe.{descriptionIn, descriptionOf}
-use Rattle.array.specs.declared.Described.{Described}
-use Rattle.array.specs.declared.Described.the-variants as described
-use Rattle.array.specs.declared.Description.{Description}
+use Rattle.description.specs.Answers.{describedOutcome}
+use Rattle.description.specs.Describe.{descriptionIn, descriptionOf}
+use Rattle.description.specs.Shape.{arrayType, arrayDims}
+use Rattle.description.specs.declared.Described.{Described}
+use Rattle.description.specs.declared.Described.the-variants as described
+use Rattle.description.specs.declared.Description.{Description}
+use Rattle.description.proofs.DescribedLaws.{step-ok, check-ok, same-ok}
+use Rattle.array.specs.Answers.{sampledOutcome}
+use Rattle.array.specs.Delivery.{dataOf, arrayOf, arrayIn, isIndex, pixelIn}
 use Rattle.array.specs.declared.Sampled.{Sampled}
 use Rattle.array.specs.declared.Sampled.the-variants as sampled
-use Rattle.array.proofs.DescribedLaws.{step-ok, check-ok, same-ok}
 use Rattle.array.proofs.Main.{length-of-array, pixel-of-array}
 use Rattle.array.proofs.ReadLaws.{array-is, no-block, no-array, no-pixel}
 use Rattle.raster.specs.Bytes.{numberOf}
@@ -49,16 +51,16 @@ use Rattle.raster.specs.Pixels.{pixelOf}
 use Rattle.raster.specs.Position.{product}
 use Rattle.raster.specs.Strided.{Octets}
 use Rattle.raster.specs.declared.Pixel.{Pixel}
-use Rattle.elements.proofs.RowLaws.{length-element}
+use Rattle.strides.proofs.RowLaws.{length-element}
 use Rattle.stored.specs.Stored.{storedArray, storedOutcome}
 use Rattle.stored.specs.declared.Stored.{Stored}
 use Rattle.stored.specs.declared.Stored.the-variants as stored
 use Rattle.stored.specs.declared.StoredArray.{StoredArray}
 use Rattle.stored.proofs.Laws.{stored-seen}
-use Rattle.writer.specs.declared.Frame.{Frame}
-use Rattle.writer.proofs.Allowed as writer
-use Rattle.edf.specs.Calls.{IntoBuffer, Open, Describe, ReadArray, Stores}
-use Rattle.edf.proofs.OpeningLaws.{opens-as, counts-failed}
+use Rattle.frame.specs.declared.Frame.{Frame}
+use Rattle.frame.proofs.Allowed as writer
+use Rattle.edf.specs.Calls.{IntoBuffer, Puts, Open, Describe, ReadArray, Stores}
+use Rattle.edf.proofs.OpeningLaws.{promised, counts-failed}
 
 -- ---- The answer by its outcome
 
@@ -135,7 +137,7 @@ module _ (w before : List ℕ) where
 
 -- Where there is room, the call answers how many bytes and puts them at the front.
 pub with-room : {o : Outcome (List ℕ)} {w : List ℕ} → o ≡ ok w → {before : List ℕ} {r : Written} {after : List ℕ}
-    → length w ≤ length before → IntoBuffer o before r after → (r ≡ written.Length (length w)) × (after ≡ w ++ drop (length w) before)
+    → length w ≤ length before → IntoBuffer o before r after → Puts w before r after
 with-room {o} {w} e {before} {r} h c = (
   written-by r (c .answers ∙ ap (λ (x : Outcome (List ℕ)). lengthWritten x before) e ∙ length-fits w before h),
   c .leaves ∙ ap (λ (x : Outcome (List ℕ)). bufferAfter x before) e ∙ buffer-fits w before h,
@@ -262,8 +264,8 @@ module _ {s : List ℕ} {block order : ℕ} {a : StoredArray} (call : Stores s b
 pub opens-rows : {s : List ℕ} {rows : List Row} → Partition s rows → length s ≤ 1073741824 → {table left : List Row} {r : Opened}
     → 256 ≤ length table → Open s table r left
     → (r ≡ opened.Blocks (length rows)) × (take (length rows) left ≡ rows) × (drop (length rows) left ≡ drop (length rows) table)
-opens-rows {s} c small {table} {left} {r} h o =
-    let g = opens-as s table r left (o .answers) (o .leaves) .gives (record { file = small; table = h }) c in
+opens-rows c small h o =
+    let g = promised o .gives (record { file = small; table = h }) c in
     (g .count, g .first, g .later)
 
 -- A written file is within the limit.

@@ -2,7 +2,6 @@
 use mathlib.Core.Path.{_≡_, refl}
 use mathlib.Core.Bool.{Bool, true, false, cond, _&&_, _||_}
 use mathlib.Core.List.{List, [], map}
-use mathlib.Core.Option.{Option}
 use Prim.Native.Nat.{ℕ, suc, _+_, _*_, _≤_}
 use native.Mathlib.Omega.{arith}
 use borrow.Author.Tests.{le-leb}
@@ -10,7 +9,7 @@ use lib.Dec.{eqb, leb}
 use lib.ListN.{length, take, getElem?}
 use Rattle.scan.specs.Buffer.{lengthWritten}
 use Rattle.scan.specs.Byte.{byte}
-use Rattle.scan.specs.Outcome.{Outcome, ok, failed, errorAt, refused, present, require, _>>=_, _>>_}
+use Rattle.scan.specs.Outcome.{Outcome, ok, failed, errorAt, refused, present, _>>_}
 use Rattle.scan.specs.Search.{firstFrom, positionOf}
 use Rattle.scan.specs.declared.Error.{Error}
 use Rattle.text.specs.Number.{wholeNumber}
@@ -26,11 +25,11 @@ use Rattle.blocks.proofs.Errors.{error-bounded}
 use Rattle.blocks.proofs.Sound.{error-sound}
 use Rattle.keyword.specs.Keyword.{View, entriesAt, generalEntries, isGeneral, viewOf, lookupIn, entryOf, found, wholeNumberOf, textIn}
 use Rattle.raster.specs.Position.{product}
+use Rattle.description.specs.Describe.{descriptionIn, descriptionOf}
 use Rattle.array.specs.Delivery.{isOrder, isIndex, arrayOf, arrayIn, pixelIn}
-use Rattle.array.specs.Describe.{descriptionIn, descriptionOf}
 use Rattle.stored.specs.Stored.{storedWith, storedArray}
-use Rattle.writer.specs.File.{frameDims, frameType, frameAllowed, fileOf, writtenFile}
-use Rattle.writer.specs.declared.Frame.{Frame}
+use Rattle.frame.specs.File.{frameDims, frameType, frameAllowed, fileOf, writtenFile}
+use Rattle.frame.specs.declared.Frame.{Frame}
 use Rattle.listing.proofs.DescriptionErrors.{description-errors}
 use Rattle.listing.proofs.ErrorLaws.{Errors, no-error, one-error, presence, checks, steps}
 use Rattle.edf.specs.Codes.{within, openCodes, findCodes, numberCodes, textCodes, describeCodes, arrayCodes, storedCodes, pixelCodes, writeCodes, listCodes, IsCodes, of-open, of-find, of-number, of-text, of-describe, of-array, of-stored, of-pixel, of-write, of-list}

@@ -17,10 +17,10 @@ use Rattle.raster.specs.Bytes.{highFirst, numberOf, highBytes, bytesOf, joined}
 use Rattle.raster.specs.Element.{nearest, offsetBits, elementBits, elementBytes}
 use Rattle.raster.specs.Position.{product, positionFrom, storedPosition, indexAt, linearPosition}
 use Rattle.raster.specs.Types.{types, typeOf}
+use Rattle.description.specs.Describe.{dimsOf, wordsOf, described}
+use Rattle.description.specs.Fields.{wordField, rangeField, foundFirst, dimsFrom}
 use Rattle.array.specs.Delivery.{storedElement, deliveredElement, delivered}
-use Rattle.array.specs.Describe.{dimsOf, wordsOf, described}
-use Rattle.array.specs.Fields.{wordField, rangeField, foundFirst, dimsFrom}
-use Rattle.writer.specs.File.{pixelBytes, storedPixels}
+use Rattle.frame.specs.File.{pixelBytes, storedPixels}
 use Rattle.edf.specs.Example.{Example, stored-as, order-is, fields-refused, offset-gives, text-is, value-form, opens-as, Field, Each}
 
 -- Three dimensions, and configuration 49.

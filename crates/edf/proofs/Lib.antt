@@ -1,8 +1,11 @@
+pub mod Answers
 pub mod CallLaws
 pub mod CodeLaws
+pub mod Codes
 pub mod Contracts
 pub mod Examples
 pub mod Main
 pub mod OpeningLaws
+pub mod Refusals
 pub mod TableLaws
 pub mod Walks

@@ -17,6 +17,7 @@ use Rattle.blocks.specs.declared.Opened.the-variants.{Blocks, Failed}
 use Rattle.blocks.specs.declared.Row.{Row}
 use Rattle.blocks.proofs.Main.{one-partition, accepts, errors}
 use Rattle.opening.proofs.TableLaws.{over-limit, few-rows, as-opened}
+use Rattle.edf.specs.Calls.{Open}
 use Rattle.edf.specs.Opening.{Allowed, Gives, OpensAs}
 
 -- ---- An answer and its outcome
@@ -106,3 +107,7 @@ module _ (s : List ℕ) (before : List Row) (r : Opened) (after : List Row)
     untouched = λ q. leaves ∙ after-failed before (fails q);
     same-length = keeps-length;
   }
+
+-- So every call of `open` keeps it.
+pub promised : {s : List ℕ} {before after : List Row} {r : Opened} → Open s before r after → OpensAs s before r after
+promised {s} {before} {after} {r} c = opens-as s before r after (c .answers) (c .leaves)

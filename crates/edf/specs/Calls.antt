@@ -1,14 +1,15 @@
 -- The contracts of the public calls, as relations between what a call was given, its answer, and what it leaves in lent memory. Each
 -- is what the `ensures` of the call of that name says.
 use mathlib.Core.Path.{_≡_}
-use mathlib.Core.List.{List}
+use mathlib.Core.List.{List, _++_}
 use Prim.Native.Nat.{ℕ}
-use lib.ListN.{length}
+use lib.ListN.{length, drop}
 use Rattle.scan.specs.Buffer.{lengthWritten, bufferAfter}
 use Rattle.scan.specs.Outcome.{Outcome, ok}
 use Rattle.text.specs.Answers.{writtenOutcome}
 use Rattle.text.specs.Text.{escaped, unescaped}
 use Rattle.text.specs.declared.Written.{Written}
+use Rattle.text.specs.declared.Written.the-variants.{Length}
 use Rattle.blocks.specs.Answers.{openedOutcome}
 use Rattle.blocks.specs.Opening.{openedInto, countOf, tableAfter}
 use Rattle.blocks.specs.declared.Opened.{Opened}
@@ -17,21 +18,26 @@ use Rattle.keyword.specs.Answers.{locatedOutcome, locatedBytes, numberOutcome}
 use Rattle.keyword.specs.Keyword.{found, valueFound, wholeNumberOf, textIn}
 use Rattle.keyword.specs.declared.Located.{Located}
 use Rattle.keyword.specs.declared.Number.{Number}
-use Rattle.array.specs.Answers.{describedOutcome, sampledOutcome}
+use Rattle.description.specs.Answers.{describedOutcome}
+use Rattle.description.specs.Describe.{descriptionOf}
+use Rattle.description.specs.declared.Described.{Described}
+use Rattle.array.specs.Answers.{sampledOutcome}
 use Rattle.array.specs.Delivery.{arrayIn, pixelIn}
-use Rattle.array.specs.Describe.{descriptionOf}
-use Rattle.array.specs.declared.Described.{Described}
 use Rattle.array.specs.declared.Sampled.{Sampled}
 use Rattle.stored.specs.Stored.{storedArray, storedOutcome, Delivers}
 use Rattle.stored.specs.declared.Stored.{Stored}
-use Rattle.writer.specs.File.{writtenFile}
-use Rattle.writer.specs.declared.Frame.{Frame}
+use Rattle.frame.specs.File.{writtenFile}
+use Rattle.frame.specs.declared.Frame.{Frame}
 use Rattle.listing.specs.Listing.{listing, FitsListing}
 
 -- A call that is to write what a definition gives, into a lent buffer that held `before`: it answers r and leaves `after`.
 pub record IntoBuffer (o : Outcome (List ℕ)) (before : List ℕ) (r : Written) (after : List ℕ) : Type 0 where
   pub answers : writtenOutcome r ≡ lengthWritten o before
   pub leaves : after ≡ bufferAfter o before
+
+-- A call that had room for the bytes: it answers how many they are, and they stand at the front of its buffer; the rest is as before.
+abbrev pub Puts : List ℕ → List ℕ → Written → List ℕ → Type 0
+Puts bytes before r after = (r ≡ Length (length bytes)) × (after ≡ bytes ++ drop (length bytes) before)
 
 -- open(file, table)
 pub record Open (file : List ℕ) (before : List Row) (r : Opened) (after : List Row) : Type 0 where

@@ -14,11 +14,11 @@ use Rattle.blocks.specs.declared.Row.{Row}
 use Rattle.raster.specs.Axis.{Axis, orderOf}
 use Rattle.raster.specs.Element.{elementBits}
 use Rattle.raster.specs.Types.{typeOf}
+use Rattle.description.specs.Describe.{described, Values}
+use Rattle.description.specs.declared.Description.{Description}
 use Rattle.array.specs.Delivery.{delivered}
-use Rattle.array.specs.Describe.{described, Values}
-use Rattle.array.specs.declared.Description.{Description}
-use Rattle.writer.specs.File.{storedPixels}
-use Rattle.writer.specs.declared.Frame.{Frame}
+use Rattle.frame.specs.File.{storedPixels}
+use Rattle.frame.specs.declared.Frame.{Frame}
 
 -- A field and its value, for a list of the fields that stand in a header.
 pub record Field : Type 0 where

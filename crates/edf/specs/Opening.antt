@@ -6,6 +6,7 @@ use Prim.Native.Nat.{ℕ, _≤_, _<_}
 use lib.ListN.{length, take, drop}
 use Rattle.scan.specs.Outcome.{errorAt}
 use Rattle.scan.specs.declared.Error.{Error}
+use Rattle.blocks.specs.Limits.{fileLimit, blockLimit}
 use Rattle.blocks.specs.Cases.{FileError}
 use Rattle.blocks.specs.Grammar.{Partition}
 use Rattle.blocks.specs.declared.Opened.{Opened}
@@ -14,8 +15,8 @@ use Rattle.blocks.specs.declared.Row.{Row}
 
 -- Neither 1, "file over 1,073,741,824 bytes", nor 2, "table under 256 rows".
 pub record Allowed (s : List ℕ) (before : List Row) : Type 0 where
-  pub file : length s ≤ 1073741824
-  pub table : 256 ≤ length before
+  pub file : length s ≤ fileLimit
+  pub table : blockLimit ≤ length before
 
 -- "Opening answers the cut's block count and gives a table row for each of its blocks, in order": the answer and the table for a file
 -- with the blocks `rows`.
@@ -33,8 +34,8 @@ pub record OpensAs (s : List ℕ) (before : List Row) (r : Opened) (after : List
   -- A file has one partition at most.
   pub one : {rows others : List Row} → Partition s rows → Partition s others → rows ≡ others
   -- Each error is given exactly in its case: 1, then 2, then those of the blocks.
-  pub over-limit : 1073741824 < length s → r ≡ Failed (errorAt 1 0)
-  pub few-rows : length s ≤ 1073741824 → length before < 256 → r ≡ Failed (errorAt 2 0)
+  pub over-limit : fileLimit < length s → r ≡ Failed (errorAt 1 0)
+  pub few-rows : length s ≤ fileLimit → length before < blockLimit → r ≡ Failed (errorAt 2 0)
   pub errors : Allowed s before → {e : Error} → (r ≡ Failed e) ↔ FileError s e
   -- "Lent memory is untouched in every refusal."
   pub untouched : {e : Error} → r ≡ Failed e → after ≡ before

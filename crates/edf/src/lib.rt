@@ -1,16 +1,16 @@
 // The public calls. Each takes any bytes and any numbers, and answers what a definition in the layers below gives. Calls on a
 // block take the file and the block's number, from 0, and answer as if they opened the file anew: where the file does not
 // open, the error is that of opening (1 and 3 to 15), with its position.
-use array::Described;
 use array::Sampled;
 use blocks::Opened;
 use blocks::Row;
+use description::Described;
+use frame::Frame;
 use keyword::Located;
 use keyword::Number;
 use scan::Span;
 use stored::Stored;
 use text::Written;
-use writer::Frame;
 ghost use mathlib.Core.Path.{_≡_};
 ghost use lib.ListN.{length};
 ghost use Rattle.scan.specs.Buffer.{lengthWritten, bufferAfter};
@@ -22,11 +22,12 @@ ghost use Rattle.blocks.specs.Answers.{openedOutcome};
 ghost use Rattle.blocks.specs.Opening.{openedInto, countOf, tableAfter};
 ghost use Rattle.keyword.specs.Answers.{locatedOutcome, locatedBytes, numberOutcome};
 ghost use Rattle.keyword.specs.Keyword.{found, valueFound, wholeNumberOf, textIn};
-ghost use Rattle.array.specs.Answers.{describedOutcome, sampledOutcome};
+ghost use Rattle.description.specs.Answers.{describedOutcome};
+ghost use Rattle.description.specs.Describe.{descriptionOf};
+ghost use Rattle.array.specs.Answers.{sampledOutcome};
 ghost use Rattle.array.specs.Delivery.{arrayIn, pixelIn};
-ghost use Rattle.array.specs.Describe.{descriptionOf};
 ghost use Rattle.stored.specs.Stored.{storedArray, storedOutcome, Delivers};
-ghost use Rattle.writer.specs.File.{writtenFile};
+ghost use Rattle.frame.specs.File.{writtenFile};
 ghost use Rattle.listing.specs.Listing.{listing, FitsListing};
 ghost use Rattle.edf.specs.Opening.{OpensAs};
 
@@ -101,7 +102,7 @@ pub fn unescape(value: &[u8], out: &mut [u8]) -> Written
 pub fn describe(file: &[u8], block: usize) -> Described
     ensures { λ r. ⌜ describedOutcome r ≡ descriptionOf (now (file .entry)) block ⌝ }
 {
-    array::describe::describe(file, block)
+    description::describe::describe(file, block)
 }
 
 // The array of a block in a byte order, 1 for high byte first and 2 for low byte first, at the front of the lent buffer: how many

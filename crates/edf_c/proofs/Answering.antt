@@ -9,11 +9,10 @@ use Rattle.scan.specs.declared.Error.{Error}
 use Rattle.scan.specs.declared.Span.{Span}
 use Rattle.text.specs.Answers.{writtenOutcome}
 use Rattle.text.specs.declared.Written.{Written}
-use Rattle.text.specs.declared.Written.the-variants.{Length, Failed}
 use Rattle.keyword.specs.Answers.{locatedOutcome, locatedBytes}
 use Rattle.keyword.specs.declared.Located.{Located}
 use Rattle.keyword.specs.declared.Located.the-variants as located
-use Rattle.edf_c.specs.Answers.{codeOf, valueAfter, positionAfter, withValue}
+use Rattle.edf_c.specs.Answers.{codeOf, valueAfter, positionAfter, withValue, mapped}
 
 module _ {A : Type 0} where
   -- The code r, the value w and the position q are those of the outcome o, where the rooms held v and p.
@@ -26,6 +25,19 @@ module _ {A : Type 0} where
   pub fails : (o : Outcome A) (v : A) (p : ℕ) {e : Error} → failed e ≡ o → Answers o v p (e .code) v (e .position)
   fails o v p h = rw (sym h) (refl, (refl, refl))
 
+-- ---- Calls that give their value in another form
+
+module _ {A B : Type 0} (f : A → B) where
+  -- The same where w is what f makes of the value.
+  abbrev pub Maps : Outcome A → B → ℕ → ℕ → B → ℕ → Type 0
+  Maps o v p r w q = (r ≡ codeOf o) × ((w ≡ valueAfter (mapped f o) v) × (q ≡ positionAfter o p))
+
+  pub maps : (o : Outcome A) (v : B) (p : ℕ) {x : A} → ok x ≡ o → {w : B} → w ≡ f x → Maps o v p 0 w p
+  maps o v p h e = rw (sym h) (refl, (e, refl))
+
+  pub maps-none : (o : Outcome A) (v : B) (p : ℕ) {e : Error} → failed e ≡ o → Maps o v p (e .code) v (e .position)
+  maps-none o v p h = rw (sym h) (refl, (refl, refl))
+
 -- ---- Calls that write into a lent buffer
 
 -- The same for a call that is to write the bytes o into a buffer that held `before` and then holds `after`.
@@ -35,18 +47,17 @@ Writes o before v p r w q after =
     × ((w ≡ valueAfter (lengthWritten o before) v)
     × ((q ≡ positionAfter (lengthWritten o before) p) × (after ≡ bufferAfter o before)))
 
-module _ (o : Outcome (List ℕ)) (before after : List ℕ) (v p : ℕ) {r : Written}
-    (h : (writtenOutcome r ≡ lengthWritten o before) × (after ≡ bufferAfter o before)) where
-  pub writes : {n : ℕ} → r ≡ Length n → Writes o before v p 0 n p after
-  writes q =
-      let a : Answers (lengthWritten o before) v p 0 _ p = succeeds (lengthWritten o before) v p (sym (ap writtenOutcome q) ∙ h .0) in
-      (a .0, (a .1 .0, (a .1 .1, h .1)))
-
-  pub writes-none : {e : Error} → r ≡ Failed e → Writes o before v p (e .code) v (e .position) after
-  writes-none {e} q =
-      let a : Answers (lengthWritten o before) v p (e .code) v (e .position) =
-      fails (lengthWritten o before) v p (sym (ap writtenOutcome q) ∙ h .0) in
-      (a .0, (a .1 .0, (a .1 .1, h .1)))
+-- From the numbers that are put for the answer a of the call behind it.
+pub writes : (o : Outcome (List ℕ)) (before after : List ℕ) (v p : ℕ) (a : Written)
+    → (writtenOutcome a ≡ lengthWritten o before) × (after ≡ bufferAfter o before)
+    → {r w q : ℕ} → Answers (writtenOutcome a) v p r w q → Writes o before v p r w q after
+writes o before after v p a h t = (
+  t .0 ∙ ap codeOf (h .0),
+  (
+    t .1 .0 ∙ ap (λ (x : Outcome ℕ). valueAfter x v) (h .0),
+    (t .1 .1 ∙ ap (λ (x : Outcome ℕ). positionAfter x p) (h .0), h .1),
+  ),
+)
 
 -- ---- The call that answers where a value stands
 

@@ -6,8 +6,8 @@ use lib.IntN.{ℤ}
 use Rattle.scan.specs.Outcome.{Outcome}
 use Rattle.scan.specs.Buffer.{lengthWritten, bufferAfter}
 use Rattle.text.proofs.Buffers.{of-equal}
-use Rattle.writer.specs.File.{writtenFile}
-use Rattle.writer.specs.declared.Frame.{Frame}
+use Rattle.frame.specs.File.{writtenFile}
+use Rattle.frame.specs.declared.Frame.{Frame}
 use Rattle.edf_c.specs.Fields.{frameOf}
 
 -- What is answered for a frame is answered for its fields.

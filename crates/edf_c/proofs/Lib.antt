@@ -1,5 +1,6 @@
 pub mod Answering
 pub mod Fields
+pub mod Numbering
 pub mod Sampling
 pub mod Storing
 pub mod Tabling

@@ -1,7 +1,7 @@
 -- What the call for one pixel answers, from the outcome of the call behind it.
 use mathlib.Core.Path.{_≡_, refl, sym}
 use Prim.Native.Nat.{ℕ}
-use Rattle.scan.specs.Outcome.{Outcome, ok, failed}
+use Rattle.scan.specs.Outcome.{Outcome}
 use Rattle.scan.specs.declared.Error.{Error}
 use Rattle.raster.specs.declared.Pixel.{Pixel}
 use Rattle.array.specs.Answers.{sampledOutcome}

@@ -13,8 +13,8 @@ use Rattle.stored.specs.declared.Stored.the-variants as stored
 use Rattle.stored.specs.declared.StoredArray.{StoredArray}
 use Rattle.edf.specs.Codes.{storedCodes, of-stored}
 use Rattle.edf.proofs.CodeLaws.{stored-gives, no-zero}
-use Rattle.edf_c.specs.Answers.{codeOf, valueAfter, positionAfter}
-use Rattle.edf_c.specs.Stored.{flag, StoredNumbers, storedOf, inNumbers, DeliveredAt}
+use Rattle.edf_c.specs.Answers.{codeOf, valueAfter, positionAfter, mapped}
+use Rattle.edf_c.specs.Stored.{flag, StoredNumbers, storedNumbers, DeliveredAt}
 
 flag-one : (b : Bool) → flag b ≡ 1 → b ≡ true
 flag-one true e = refl
@@ -24,12 +24,12 @@ flag-one false e = absurd (omega arith)
 abbrev pub Stores : List ℕ → ℕ → ℕ → StoredNumbers → ℕ → ℕ → StoredNumbers → ℕ → Type 0
 Stores s block order v p r w q =
     (r ≡ codeOf (storedArray s block order))
-    × ((w ≡ valueAfter (inNumbers (storedArray s block order)) v)
+    × ((w ≡ valueAfter (mapped storedNumbers (storedArray s block order)) v)
     × ((q ≡ positionAfter (storedArray s block order) p) × DeliveredAt s block order r (w .span) (w .delivered)))
 
 module _ (s : List ℕ) (block order : ℕ) (v : StoredNumbers) (p : ℕ) {r : Stored}
     (h : (storedOutcome r ≡ storedArray s block order) × Delivers s block order r) where
-  pub stores : {a : StoredArray} → r ≡ stored.Array a → {w : StoredNumbers} → w ≡ storedOf (a .description) (a .span) (flag (a .delivered))
+  pub stores : {a : StoredArray} → r ≡ stored.Array a → {w : StoredNumbers} → w ≡ storedNumbers a
       → Stores s block order v p 0 w p
   stores {a} e {w} q =
       let o : ok a ≡ storedArray s block order = sym (ap storedOutcome e) ∙ h .0 in
@@ -42,7 +42,7 @@ module _ (s : List ℕ) (block order : ℕ) (v : StoredNumbers) (p : ℕ) {r : S
       let coded : storedCodes (e .code) ≡ true = stored-gives s block order .hold (sym o) in (
         ap codeOf o,
         (
-          ap (λ (x : Outcome StoredArray). valueAfter (inNumbers x) v) o,
+          ap (λ (x : Outcome StoredArray). valueAfter (mapped storedNumbers x) v) o,
           (
             ap (λ (x : Outcome StoredArray). positionAfter x p) o,
             λ z f. absurd (clash (storedCodes 0) (ap storedCodes (sym z) ∙ coded) (no-zero storedCodes of-stored)),

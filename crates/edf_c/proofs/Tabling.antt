@@ -1,35 +1,28 @@
 -- The rows of a plan as numbers, and what the call that opens a file answers.
 use mathlib.Core.Path.{_≡_, refl, sym, ap, _∙_}
-use mathlib.Core.List.{List, [], _∷_, _++_}
-use Prim.Native.Nat.{ℕ, zero, suc, _+_, _-_, _*_, _≤_}
+use mathlib.Core.List.{List, [], _∷_, _++_, append-assoc}
+use Prim.Native.Nat.{ℕ, zero, suc, _+_, _*_, _≤_, _<_}
 use native.Mathlib.Omega.{arith}
-use lib.IntN.{negsuc}
-use lib.ListN.{length, getD, take}
-use lib.Seq.{take-suc}
+use native.Mathlib.Numerals.{add-one}
+use lib.ListN.{length, getD, set, take, drop}
+use lib.Seq.{take-suc, take-length, drop-drop, paste, paste-suc}
 use Rattle.scan.specs.Buffer.{over}
 use Rattle.scan.specs.Outcome.{Outcome, ok, failed}
 use Rattle.scan.specs.declared.Error.{Error}
 use Rattle.raster.specs.Bytes.{joined}
 use Rattle.raster.specs.Strided.{patched}
-use Rattle.elements.proofs.Filling.{piece-more}
+use Rattle.strides.proofs.Filling.{piece-more}
 use Rattle.blocks.specs.Answers.{openedOutcome}
 use Rattle.blocks.specs.Opening.{countOf}
 use Rattle.blocks.specs.declared.Opened.the-variants.{Blocks, Failed}
 use Rattle.blocks.specs.declared.Row.{Row}
 use Rattle.opening.specs.Table.{rowsOf, Plans}
-use Rattle.opening.specs.declared.Plan.{Plan}
+use Rattle.opening.specs.declared.Opening.{Opening}
 use Rattle.edf.proofs.TableLaws.{no-row}
 use Rattle.edf_c.specs.Answers.{codeOf, valueAfter, positionAfter}
-use Rattle.edf_c.specs.Table.{bitsOf, numbersOf, allNumbers, numbersAfter}
+use Rattle.edf_c.specs.Numbers.{numbersOf}
+use Rattle.edf_c.specs.Table.{allNumbers, numbersAfter}
 use Rattle.edf_c.proofs.Answering.{Answers, succeeds, fails}
-
--- The bits of -(n + 1).
-pub down-bits : (n : ℕ) → 18446744073709551615 - n ≡ bitsOf (negsuc n)
-down-bits n = omega arith
-
-pub numbers-are : (r : Row) {a b : ℕ} → a ≡ bitsOf (r .sequence) → b ≡ bitsOf (r .memory)
-    → r .start ∷ r .header ∷ r .size ∷ r .kind ∷ a ∷ r .instance ∷ b ∷ [] ≡ numbersOf r
-numbers-are r p q = λ i. r .start ∷ r .header ∷ r .size ∷ r .kind ∷ p i ∷ r .instance ∷ q i ∷ []
 
 all-append : (a b : List Row) → allNumbers (a ++ b) ≡ allNumbers a ++ allNumbers b
 unfolding allNumbers
@@ -62,6 +55,23 @@ pub laid-all : (rows : List Row) (d : List ℕ) (n i : ℕ) (l : List ℕ) → n
 laid-all rows d n i l h q e =
     e ∙ ap (λ (k : ℕ). over (joined k (piece rows)) d) q ∙ ap (λ (w : List ℕ). over w d) (joined-rows rows n h)
 
+-- ---- One row, number by number
+
+-- One number more is written.
+pub paste-more : (d : List ℕ) (at : ℕ) (b l : List ℕ) (j : ℕ) → l ≡ paste d at b j → at + j < length d → j < length b
+    → set l (at + j) (getD b j 0) ≡ paste d at b (j + 1)
+paste-more d at b l j e h k =
+    ap (λ (x : List ℕ). set x (at + j) (getD b j 0)) e ∙ paste-suc d at b j 0 h k ∙ ap (paste d at b) (sym (add-one j))
+
+-- With all written, they stand in place of those that stood there.
+pub pasted : (d : List ℕ) (at : ℕ) (b l : List ℕ) (j : ℕ) → l ≡ paste d at b j → j ≡ length b → l ≡ patched at (length b) d b
+pasted d at b l j e h =
+    e
+    ∙ ap (paste d at b) h
+    ∙ (λ i. (take at d ++ take-length b i) ++ drop (at + length b) d)
+    ∙ append-assoc (take at d) b (drop (at + length b) d)
+    ∙ ap (λ (x : List ℕ). take at d ++ (b ++ x)) (sym (drop-drop (length b) at d))
+
 -- ---- What the call answers
 
 rows-after : (o : Outcome (List Row)) (d : List ℕ) → over (allNumbers (rowsOf o)) d ≡ numbersAfter o d
@@ -75,7 +85,7 @@ Opens o before v p r w q after =
     (r ≡ codeOf (countOf o))
     × ((w ≡ valueAfter (countOf o) v) × ((q ≡ positionAfter (countOf o) p) × (after ≡ numbersAfter o before)))
 
-module _ (o : Outcome (List Row)) (before after : List ℕ) (v p : ℕ) {n : ℕ} {plan : Plan} (h : Plans o n plan)
+module _ (o : Outcome (List Row)) (before after : List ℕ) (v p : ℕ) {n : ℕ} {plan : Opening} (h : Plans o n plan)
     (laid : after ≡ over (allNumbers (take (plan .count) (plan .rows))) before) where
   placed : after ≡ numbersAfter o before
   placed = laid ∙ ap (λ (rows : List Row). over (allNumbers rows) before) (h .places) ∙ rows-after o before

@@ -22,3 +22,8 @@ module _ {A : Type 0} where
   abbrev pub withValue : {B : Type 0} → Outcome A → B → Outcome B
   withValue (ok x) y = ok y
   withValue (failed e) y = failed e
+
+-- The outcome with its value in another form.
+abbrev pub mapped : {A B : Type 0} → (A → B) → Outcome A → Outcome B
+mapped f (ok x) = ok (f x)
+mapped f (failed e) = failed e

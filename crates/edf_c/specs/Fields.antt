@@ -2,28 +2,11 @@
 use Prim.Native.Nat.{ℕ}
 use lib.IntN.{ℤ}
 use Rattle.scan.specs.declared.Span.{Span}
-use Rattle.array.specs.declared.Description.{Description}
-use Rattle.writer.specs.declared.Frame.{Frame}
+use Rattle.frame.specs.declared.Frame.{Frame}
 
 -- The span of an offset and a length.
 abbrev pub spanOf : ℕ → ℕ → Span
 spanOf offset length = record { offset = offset; length = length }
-
--- The description with these fields.
-abbrev pub fieldsOf : ℕ → ℕ → ℕ → ℕ → ℕ → ℕ → ℕ → ℕ → ℕ → ℤ → Description
-fieldsOf datatype byteorder compression n dim1 dim2 dim3 configuration orientation offset =
-    record {
-      datatype = datatype;
-      byteorder = byteorder;
-      compression = compression;
-      n = n;
-      dim1 = dim1;
-      dim2 = dim2;
-      dim3 = dim3;
-      configuration = configuration;
-      orientation = orientation;
-      offset = offset;
-    }
 
 -- The frame with these fields.
 abbrev pub frameOf : ℤ → ℕ → ℤ → ℕ → ℕ → ℕ → ℕ → ℕ → ℕ → ℕ → Frame

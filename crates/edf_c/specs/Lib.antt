@@ -1,5 +1,6 @@
 pub mod Answers
 pub mod Fields
+pub mod Numbers
 pub mod Samples
 pub mod Stored
 pub mod Table

@@ -4,11 +4,12 @@ use mathlib.Core.Bool.{Bool, true, false}
 use mathlib.Core.List.{List}
 use Prim.Native.Nat.{ℕ}
 use Rattle.scan.specs.Byte.{partOf}
-use Rattle.scan.specs.Outcome.{Outcome, ok, failed}
+use Rattle.scan.specs.Outcome.{ok}
 use Rattle.scan.specs.declared.Span.{Span}
+use Rattle.description.specs.declared.Description.{Description}
 use Rattle.array.specs.Delivery.{arrayIn}
-use Rattle.array.specs.declared.Description.{Description}
 use Rattle.stored.specs.declared.StoredArray.{StoredArray}
+use Rattle.edf_c.specs.Numbers.{fieldsOf}
 
 -- A flag is 1 or 0.
 abbrev pub flag : Bool → ℕ
@@ -16,17 +17,16 @@ flag true = 1
 flag false = 0
 
 pub record StoredNumbers : Type 0 where
-  pub description : Description
+  pub description : List ℕ
   pub span : Span
   pub delivered : ℕ
 
-abbrev pub storedOf : Description → Span → ℕ → StoredNumbers
+abbrev pub storedOf : List ℕ → Span → ℕ → StoredNumbers
 storedOf description span delivered = record { description = description; span = span; delivered = delivered }
 
--- The outcome with its flag as a number.
-abbrev pub inNumbers : Outcome StoredArray → Outcome StoredNumbers
-inNumbers (ok a) = ok (storedOf (a .description) (a .span) (flag (a .delivered)))
-inNumbers (failed e) = failed e
+-- The numbers of a stored array.
+abbrev pub storedNumbers : StoredArray → StoredNumbers
+storedNumbers a = storedOf (fieldsOf (a .description)) (a .span) (flag (a .delivered))
 
 -- In success, and where the flag is 1, the part of the file at the span is the array delivered.
 abbrev pub DeliveredAt : List ℕ → ℕ → ℕ → ℕ → Span → ℕ → Type 0

@@ -1,23 +1,12 @@
--- The table of a file's blocks as numbers, seven a row: its start, the length of its header, the size of its data, its kind, and its
--- identity. A number with a sign is given by its bits.
+-- The table of a file's blocks as numbers, seven a row.
 use mathlib.Core.List.{List, [], _∷_, _++_}
-use Prim.Native.Nat.{ℕ, suc, _-_, _^_}
-use lib.IntN.{ℤ, pos, negsuc}
+use Prim.Native.Nat.{ℕ}
 use Rattle.scan.specs.Buffer.{over}
 use Rattle.scan.specs.Outcome.{Outcome, ok, failed}
 use Rattle.blocks.specs.declared.Row.{Row}
+use Rattle.edf_c.specs.Numbers.{numbersOf}
 
--- Two's complement, in 64 bits; `negsuc n` is -(n + 1).
-abbrev pub bitsOf : ℤ → ℕ
-bitsOf (pos n) = n
-bitsOf (negsuc n) = 2 ^ 64 - suc n
-
--- The numbers of a row.
-abbrev pub numbersOf : Row → List ℕ
-numbersOf r =
-    r .start ∷ r .header ∷ r .size ∷ r .kind ∷ bitsOf (r .sequence) ∷ r .instance ∷ bitsOf (r .memory) ∷ []
-
--- Those of rows, one after the other.
+-- The numbers of rows, one after the other.
 unfoldable pub allNumbers : List Row → List ℕ
 allNumbers [] = []
 allNumbers (r ∷ rows) = numbersOf r ++ allNumbers rows

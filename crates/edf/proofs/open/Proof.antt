@@ -55,9 +55,9 @@ use Rattle.blocks.proofs.Row.Laws as R′
 use Rattle.blocks.proofs.Opened as O
 use Rattle.blocks.proofs.Opened.Laws as O′
 use Rattle.opening.specs.Table.{Plans}
-use Rattle.opening.specs.declared.Plan.{Plan}
-use Rattle.opening.proofs.Plan as P
-use Rattle.opening.proofs.Plan.Laws as P′
+use Rattle.opening.specs.declared.Opening.{Opening}
+use Rattle.opening.proofs.Opening as P
+use Rattle.opening.proofs.Opening.Laws as P′
 use Rattle.opening.proofs.table.planned as planned
 use Rattle.opening.proofs.table.planned.Symbol as planned-def
 use Rattle.opening.proofs.table.planned.Symbol.{name as #planned}
@@ -131,15 +131,15 @@ module _ {M : Type 1} (𝓤 : URA M) (H : Heap 𝓤) (A : Atoms 𝓤) (W : Given
       nothing ! $ owned ! usize (Is usize) (uint-makes 𝓤 H A W w64) n _ (refl, room .0) $ fjoin ! $ move ! (2 ∷ 0 ∷ []) $
       fjoin ! $ move ! (1 ∷ 0 ∷ []) $ join ! $ frame ! $ done !
 
-  abbrev Said : Plan → Type 0
+  abbrev Said : Opening → Type 0
   Said p = Plans (openedInto n (file .now)) n p
 
-  planned-of : (p : Plan)
+  planned-of : (p : Opening)
       → ent 𝓤 (ensured 𝓤 H A planned.ended (planned.clauses 𝓤 H A mem run) (κ, tt) (file, (n, tt)) tt p) (fact 𝓤 (Said p))
   planned-of p = exE 𝓤 _ (λ ws. snd∗ 𝓤 (sem 𝓤 H A (lasts planned.ended (κ, tt) (file, (n, tt)) ws)) (fact 𝓤 (Said p)))
 
   -- ---- once the plan is known
-  module _ (p : Plan) (said : Said p) (is : Is P.the-row p (LL.vals P.the-type P′.the-laws p)) where
+  module _ (p : Opening) (said : Said p) (is : Is P.the-row p (LL.vals P.the-type P′.the-laws p)) where
     abbrev mach : Val
     mach = LL.val P.the-type P′.the-laws p
 
@@ -363,7 +363,7 @@ module _ {M : Type 1} (𝓤 : URA M) (H : Heap 𝓤) (A : Atoms 𝓤) (W : Given
         calls-at ! fm (Planned 𝓤 H A mem run) known-planned to-planned
         (and-then ! (load ! (from ! (stop !)) (look ! 28 refl))
         (and-then ! (load ! (from ! (stop !)) (look ! 18 refl)) (no-more !))) (λ w.
-        use1 W (later (some (λ (r : Plan). ((‵ (flft κ q) ⊛ ‵ ftrue) ⊛ ‵ (P.the-row .own r (w
+        use1 W (later (some (λ (r : Opening). ((‵ (flft κ q) ⊛ ‵ ftrue) ⊛ ‵ (P.the-row .own r (w
         ∷ []))) ⊛ raw (ensured 𝓤 H A planned.ended (planned.clauses 𝓤 H A mem run) (κ, tt) (file, (n, tt)) tt r)))) (id⊢ 𝓤 _) $
         await ! tt $ pick ! (λ p.
         split ! $ move ! (1 ∷ []) $ use1 W (raw (fact 𝓤 (Said p))) (planned-of p) $ heard ! (Said p) (λ said. split ! $
