@@ -1,12 +1,12 @@
 """How long Python takes to read files of this format: fabio, numpy by hand, and this library through bindings/python/edf.py, on the
-same files, in one run, in turns; the best of many. What they read is compared first. Prints tables.
+same files, in one run, in turns; the best of many. What they read is compared first. Prints tables, and the limits with the rows
+above them.
 
 fabio is the reader that this field uses. "numpy" is what one writes with numpy alone: it reads the first header, takes from it how
 the pixels are stored, then numpy.fromfile, the bytes in this machine's order and the array in raster configuration 1. It checks
-next to nothing. "fromfile" and "memmap" are the same for one who knows already where the pixels are and how they are stored: they
-do not read the header. "edf" is edf.read. Each answers an array of its own, in this machine's byte order; but for the table of arrays
-that are there already, into which all put their pixels. numpy uses one processor; edf.read uses more where it reads 3 MiB or more
-that are stored as they are asked for."""
+next to nothing. "fromfile" is the same for one who knows already where the pixels are and how they are stored: it does not read the
+header. "edf" is edf.read. Each answers an array of its own, in this machine's byte order; but for the table of arrays that are there
+already, into which all put their pixels."""
 
 import os
 import random
@@ -25,7 +25,10 @@ import fabio  # noqa: E402
 import numpy  # noqa: E402
 
 logging.disable(logging.CRITICAL)
-behind = {"fabio": [], "numpy": [], "fromfile": [], "memmap": []}  # the rows where each is quicker than this library
+READERS = ("fabio", "numpy", "fromfile")
+
+# What is limited, as this library's time divided by another reader's: the limit, and name and ratio of each row.
+limits = {"fabio": (1.0, []), "numpy, but for plain moves": (1.0, []), "fromfile, plain moves": (1.2, [])}
 
 
 def best(calls):
@@ -37,23 +40,33 @@ def best(calls):
         turns += 1
         order.shuffle(numbers)
         for n in numbers:
-            for row in range(4):
+            for repeat in range(4):
                 start = time.perf_counter()
                 result = calls[n]()
                 took = time.perf_counter() - start
                 del result
-                least[n] = min(least[n], took) if row else least[n]
+                least[n] = min(least[n], took) if repeat else least[n]
     return [1000 * t for t in least]
 
 
-def cells(name, others, own):
-    """The times of a row by reader, None where it has none, and their ratios to this library's time; notes where it is behind."""
-    for reader, other in others.items():
-        if other is not None and own >= other:
-            behind[reader].append(name)
-    times = ["%.3f" % t if t is not None else "-" for t in [*others.values(), own]]
-    ratios = ["%.2f" % (t / own) if t is not None else "-" for t in others.values()]
+def row(name, others, own):
+    """Prints a row: the times of other readers, None where there is none, this library's, and the ratios to it."""
+    times = ["%.3f" % t if t is not None else "-" for t in others + [own]]
+    ratios = ["%.2f" % (t / own) if t is not None else "-" for t in others]
     print("| " + " | ".join([name] + times + ratios) + " |", flush=True)
+
+
+def judge(what, name, other, own):
+    """Notes the ratio of a row that is limited."""
+    if other is not None:
+        limits[what][1].append((own / other, name))
+
+
+def judgement():
+    print("| edf / | limit | highest | rows | above the limit |\n|---|---|---|---|---|")
+    for what, (limit, rows) in limits.items():
+        above = ["%s: %.2f" % (name, ratio) for ratio, name in rows if ratio > limit]
+        print("| %s | %.1f | %.2f | %d | %s |" % (what, limit, max(rows)[0], len(rows), "; ".join(above) or "none"))
 
 
 def header(statements):
@@ -83,7 +96,7 @@ def first_header(stream):
     return keywords, end + 2
 
 
-def delivered(array, configuration=1, offset=0, copied=False):
+def delivered(array, configuration=1, offset=0):
     """An array as it is stored, in this machine's byte order, in raster configuration 1 and with a value offset added."""
     if configuration in (2, 4):
         array = array[:, ::-1]
@@ -91,8 +104,7 @@ def delivered(array, configuration=1, offset=0, copied=False):
         array = array[::-1]
     if configuration == 6:  # (2,-1)
         array = array[::-1].T
-    native = array.dtype.newbyteorder("=")
-    array = numpy.array(array, native, order="C", subok=False) if copied else numpy.ascontiguousarray(array, native)
+    array = numpy.ascontiguousarray(array, array.dtype.newbyteorder("="))
     if offset:
         wide = array.astype("i8") + offset
         limits = numpy.iinfo(array.dtype)
@@ -144,33 +156,35 @@ def one_image(folder, data_type, low_first, configuration=1, offset=0, side=2048
     def by_fromfile():
         return delivered(numpy.fromfile(path, stored, side * side, offset=start).reshape(side, side), configuration, offset)
 
-    def by_memmap():
-        return delivered(numpy.memmap(path, stored, "r", start, (side, side)), configuration, offset, copied=True)
-
     def by_edf():
         return edf.read(path)
 
     plain = configuration == 1 and not offset
+    moves = plain and (stored.isnative or stored.itemsize == 1)
     expected = by_fromfile()
     assert (by_edf() == expected).all() and by_edf().dtype == expected.dtype
     assert (by_numpy() == expected).all() and by_numpy().dtype == expected.dtype
-    assert (by_memmap() == expected).all() and by_memmap().flags.owndata
     assert not plain or (by_fabio() == expected).all()
-    readers = {"fabio": by_fabio, "numpy": by_numpy, "fromfile": by_fromfile, "memmap": by_memmap, "edf": by_edf}
+    readers = {"fabio": by_fabio, "numpy": by_numpy, "fromfile": by_fromfile, "edf": by_edf}
     if not plain:
         del readers["fabio"]
     times = dict(zip(readers, best(list(readers.values()))))
     name = "%s, %s" % (data_type, "low byte first" if low_first else "high byte first")
     name += ", configuration %d" % configuration if configuration != 1 else ""
     name += ", offset %d" % offset if offset else ""
-    cells(name, {reader: times.get(reader) for reader in behind}, times["edf"])
+    row(name, [times.get(reader) for reader in READERS], times["edf"])
+    judge("fabio", name, times.get("fabio"), times["edf"])
+    if moves:
+        judge("fromfile, plain moves", name, times["fromfile"], times["edf"])
+    else:
+        judge("numpy, but for plain moves", name, times["numpy"], times["edf"])
     os.remove(path)
 
 
 def images(folder):
-    print("| reading an image of 2,048 by 2,048 | %s | edf ms | %s |" % (" | ".join(reader + " ms" for reader in behind),
-                                                                       " | ".join(reader + " / edf" for reader in behind)))
-    print("|---" * (2 * len(behind) + 2) + "|")
+    print("| reading an image of 2,048 by 2,048 | %s | edf ms | %s |" % (" | ".join(reader + " ms" for reader in READERS),
+                                                                       " | ".join(reader + " / edf" for reader in READERS)))
+    print("|---" * (2 * len(READERS) + 2) + "|")
     for data_type in KINDS:
         for low_first in (True, False):
             one_image(folder, data_type, low_first)
@@ -179,36 +193,6 @@ def images(folder):
         one_image(folder, "UnsignedShort", True, configuration)
     one_image(folder, "UnsignedShort", True, 1, 10)
     print("\nfabio does not undo raster configurations and does not add value offsets: `-`.\n")
-
-
-def opened_image(folder, data_type):
-    """A row: an image by edf.read, by edf.read on one processor, and by edf.open and array."""
-    path = os.path.join(folder, "image.edf")
-    stored_image(path, data_type, True)
-
-    def by_read():
-        return edf.read(path)
-
-    def by_open():
-        with edf.open(path) as file:
-            return file.array(0)
-
-    assert (by_read() == by_open()).all()
-    read, by_opening = best([by_read, by_open])
-    processors = os.sched_getaffinity(0)
-    os.sched_setaffinity(0, [min(processors)])
-    [alone] = best([by_read])
-    os.sched_setaffinity(0, processors)
-    print("| %s | %.3f | %.3f | %.3f | %.2f | %.2f |" % (data_type, read, alone, by_opening, alone / read, by_opening / read), flush=True)
-    os.remove(path)
-
-
-def opened_images(folder):
-    print("| an image of 2,048 by 2,048, low byte first | read ms | read on one processor ms | open and array ms | one processor / read "
-          "| open and array / read |\n|---|---|---|---|---|---|")
-    for data_type in ("UnsignedByte", "UnsignedShort", "UnsignedInteger", "Unsigned64"):
-        opened_image(folder, data_type)
-    print()
 
 
 # ---- An array that is there
@@ -226,10 +210,6 @@ def image_into(folder, side, low_first):
             stream.readinto(out)
         return out if stored.isnative else out.byteswap(inplace=True)
 
-    def by_memmap():
-        numpy.copyto(out, numpy.memmap(path, stored, "r", start, (side, side)))
-        return out
-
     def by_edf():
         with edf.open(path) as file:
             return file.array(0)
@@ -239,19 +219,18 @@ def image_into(folder, side, low_first):
             return file.array(0, out=out)
 
     expected = by_edf()
-    for call in (by_readinto, by_memmap, by_edf_out):
+    for call in (by_readinto, by_edf_out):
         out[:] = 0
         assert (call() == expected).all()
     del expected
-    *others, own = best([by_readinto, by_memmap, by_edf, by_edf_out])
-    name = "%d MiB, %s" % (out.nbytes >> 20, "low byte first" if low_first else "high byte first")
-    print("| " + " | ".join([name] + ["%.3f" % t for t in others + [own]] + ["%.2f" % (t / own) for t in others]) + " |", flush=True)
+    *others, own = best([by_readinto, by_edf, by_edf_out])
+    row("%d MiB, %s" % (out.nbytes >> 20, "low byte first" if low_first else "high byte first"), others, own)
     os.remove(path)
 
 
 def arrays_that_are_there(folder):
-    print("| reading UnsignedShort into an array that is there | readinto ms | memmap ms | edf, new array ms | edf, out= ms "
-          "| readinto / out= | memmap / out= | new array / out= |\n|---|---|---|---|---|---|---|---|")
+    print("| reading UnsignedShort into an array that is there | readinto ms | edf, new array ms | edf, out= ms | readinto / out= "
+          "| new array / out= |\n|---|---|---|---|---|---|")
     for side in (2048, 4096, 8192):
         for low_first in (True, False):
             image_into(folder, side, low_first)
@@ -314,7 +293,8 @@ def many_frames(folder, frames, keywords, side):
     for name, calls in (("open", (fabio_open, edf_open)), ("all keywords", (fabio_headers, edf_headers)),
                         ("the last image", (fabio_last, edf_last)), ("all images", (fabio_frames, edf_frames))):
         theirs, own = best(calls)
-        cells(about + name, {"fabio": theirs}, own)
+        row(about + name, [theirs], own)
+        judge("fabio", about + name, theirs, own)
     os.remove(path)
 
 
@@ -323,7 +303,6 @@ def main():
     try:
         print("fabio %s, numpy %s, Python %s\n" % (fabio.version, numpy.__version__, sys.version.split()[0]))
         images(folder)
-        opened_images(folder)
         arrays_that_are_there(folder)
         print("| files of several frames | fabio ms | edf ms | fabio / edf |\n|---|---|---|---|")
         for frames in (1, 16, 256):
@@ -332,9 +311,8 @@ def main():
         many_frames(folder, 16, 10, 2048)
     finally:
         shutil.rmtree(folder)
-    about = {"fabio": "", "numpy": " (reads the header)", "fromfile": " (told beforehand)", "memmap": " (told beforehand)"}
-    for reader, rows in behind.items():
-        print("\nbehind %s%s on %d rows%s" % (reader, about[reader], len(rows), ": " + "; ".join(rows) if rows else ""))
+    print()
+    judgement()
 
 
 main()

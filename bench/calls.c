@@ -40,12 +40,9 @@ static uint8_t find_it(void) {
 }
 
 static uint8_t describe_it(void) {
-    uint8_t datatype, byteorder, compression, n;
-    size_t dim1, dim2, dim3, position;
-    uint32_t configuration, orientation;
-    int64_t offset;
-    return edf_describe(file, file_length, last, &datatype, &byteorder, &compression, &n, &dim1, &dim2, &dim3, &configuration, &orientation,
-                        &offset, &position);
+    edf_description description;
+    size_t position;
+    return edf_describe(file, file_length, last, &description, &position);
 }
 
 static uint8_t pixel_of_it(void) {

@@ -37,7 +37,7 @@ static size_t make_header(uint8_t *file, int type, int low_first, int n, const s
     return 512;
 }
 
-// The steps of a configuration in elements, by the rule of document 01: N is inserted into the order for N - 1.
+// The steps of a configuration in elements, by the rule of the format: N is inserted into the order for N - 1.
 static void steps_of(int n, int number, const size_t dim[3], ptrdiff_t *at, ptrdiff_t step[3]) {
     int order[3], count[] = {1, 2, 8}, k[3], m = number - 1, length = 0;
     for (int i = n - 1; i >= 0; i--) k[i] = m / count[i], m %= count[i];

@@ -19,7 +19,7 @@ static void check(int holds, const char *what) {
 static uint8_t file[8192], out[4096];
 static size_t file_length;
 
-/* The example of document 01: 3 by 2 in configuration 6. */
+/* An array of 3 by 2, in configuration 6. */
 static void writing(void) {
     const uint8_t pixels[] = {0, 1, 0, 2, 0, 3, 0, 4, 0, 5, 0, 6};
     size_t position = 99;
@@ -64,22 +64,28 @@ static void keywords(void) {
     CHECK(edf_unescape(BYTES(";"), out, EDF_TEXT_CAPACITY, &length, &position) == EDF_BAD_ARGUMENT);
 }
 
+static void descriptions(void) {
+    edf_description d, before;
+    size_t position = 99;
+    memset(&d, 99, sizeof d);
+    CHECK(edf_describe(file, file_length, 0, &d, &position) == EDF_OK && position == 99);
+    CHECK(d.datatype == EDF_UNSIGNED_SHORT && d.byteorder == EDF_HIGH_BYTE_FIRST && d.compression == EDF_COMPRESSION_NONE);
+    CHECK(d.n == 2 && d.dim1 == 3 && d.dim2 == 2 && d.dim3 == 1 && d.configuration == 6 && d.orientation == 1 && d.offset == 0);
+    memset(&d, 99, sizeof d);
+    before = d;
+    CHECK(edf_describe(file, file_length, 1, &d, &position) == EDF_NOT_FOUND && position == 0);
+    CHECK(memcmp(&d, &before, sizeof d) == 0);
+}
+
 static void arrays(void) {
-    uint8_t datatype = 0, byteorder = 0, compression = 0, n = 0, class_ = 0;
-    size_t dim1 = 0, dim2 = 0, dim3 = 0, length = 0, position = 99;
-    uint32_t configuration = 0, orientation = 0;
-    int64_t offset = 99, signed_ = 99;
+    uint8_t class_ = 0;
+    size_t length = 0, position = 99;
+    int64_t signed_ = 99;
     uint64_t unsigned_ = 99;
     float float32 = 99;
     double float64 = 99;
-    CHECK(edf_describe(file, file_length, 0, &datatype, &byteorder, &compression, &n, &dim1, &dim2, &dim3, &configuration,
-                       &orientation, &offset, &position) == EDF_OK);
-    CHECK(datatype == EDF_UNSIGNED_SHORT && byteorder == EDF_HIGH_BYTE_FIRST && compression == EDF_COMPRESSION_NONE);
-    CHECK(n == 2 && dim1 == 3 && dim2 == 2 && dim3 == 1 && configuration == 6 && orientation == 1 && offset == 0);
-    CHECK(edf_describe(file, file_length, 1, &datatype, &byteorder, &compression, &n, &dim1, &dim2, &dim3, &configuration,
-                       &orientation, &offset, &position) == EDF_NOT_FOUND);
     CHECK(edf_read_array(file, file_length, 0, EDF_LOW_BYTE_FIRST, out, sizeof out, &length, &position) == EDF_OK);
-    CHECK(length == dim1 * dim2 * dim3 * edf_datatype_width(datatype) && memcmp(out, "\1\0\2\0\3\0\4\0\5\0\6\0", 12) == 0);
+    CHECK(length == 3 * 2 * edf_datatype_width(EDF_UNSIGNED_SHORT) && memcmp(out, "\1\0\2\0\3\0\4\0\5\0\6\0", 12) == 0);
     CHECK(edf_read_array(file, file_length, 0, 3, out, sizeof out, &length, &position) == EDF_BAD_ARGUMENT);
     CHECK(edf_read_pixel(file, file_length, 0, 2, 1, 0, &class_, &unsigned_, &signed_, &float32, &float64, &position) == EDF_OK);
     CHECK(class_ == EDF_UNSIGNED && unsigned_ == 6 && signed_ == 99 && float32 == 99 && float64 == 99);
@@ -97,20 +103,19 @@ static size_t plain_file(uint8_t *bytes) {
 
 static void stored_arrays(void) {
     static uint8_t bytes[4096];
-    uint8_t datatype = 0, byteorder = 0, compression = 0, n = 0, delivered = 99;
-    size_t dim1 = 0, dim2 = 0, dim3 = 0, start = 0, length = 0, position = 99, size = plain_file(bytes);
-    uint32_t configuration = 0, orientation = 0;
-    int64_t offset = 99;
-    CHECK(edf_stored_array(bytes, size, 0, EDF_LOW_BYTE_FIRST, &datatype, &byteorder, &compression, &n, &dim1, &dim2, &dim3,
-                           &configuration, &orientation, &offset, &start, &length, &delivered, &position) == EDF_OK);
-    CHECK(datatype == EDF_UNSIGNED_SHORT && byteorder == EDF_LOW_BYTE_FIRST && n == 2 && dim1 == 2 && dim2 == 2 && dim3 == 1);
+    edf_description d;
+    uint8_t delivered = 99;
+    size_t start = 0, length = 0, position = 99, size = plain_file(bytes);
+    memset(&d, 99, sizeof d);
+    CHECK(edf_stored_array(bytes, size, 0, EDF_LOW_BYTE_FIRST, &d, &start, &length, &delivered, &position) == EDF_OK);
+    CHECK(d.datatype == EDF_UNSIGNED_SHORT && d.byteorder == EDF_LOW_BYTE_FIRST && d.compression == EDF_COMPRESSION_NONE);
+    CHECK(d.n == 2 && d.dim1 == 2 && d.dim2 == 2 && d.dim3 == 1 && d.configuration == 1 && d.orientation == 1 && d.offset == 0);
     CHECK(delivered == 1 && length == 8 && memcmp(bytes + start, "\1\0\2\0\3\0\4\1", 8) == 0 && position == 99);
-    CHECK(edf_stored_array(bytes, size, 0, EDF_HIGH_BYTE_FIRST, &datatype, &byteorder, &compression, &n, &dim1, &dim2, &dim3,
-                           &configuration, &orientation, &offset, &start, &length, &delivered, &position) == EDF_OK);
+    CHECK(edf_stored_array(bytes, size, 0, EDF_HIGH_BYTE_FIRST, &d, &start, &length, &delivered, &position) == EDF_OK);
     CHECK(delivered == 0 && start == 512 && length == 8);
-    CHECK(edf_stored_array(bytes, size, 0, 3, &datatype, &byteorder, &compression, &n, &dim1, &dim2, &dim3, &configuration,
-                           &orientation, &offset, &start, &length, &delivered, &position) == EDF_BAD_ARGUMENT);
-    CHECK(delivered == 0 && position == 0);
+    d.n = start = length = delivered = 99;
+    CHECK(edf_stored_array(bytes, size, 0, 3, &d, &start, &length, &delivered, &position) == EDF_BAD_ARGUMENT);
+    CHECK(d.n == 99 && start == 99 && length == 99 && delivered == 99 && position == 0);
 }
 
 static void write_file(const char *path, const uint8_t *bytes, size_t length) {
@@ -118,36 +123,46 @@ static void write_file(const char *path, const uint8_t *bytes, size_t length) {
     CHECK(stream != NULL && fwrite(bytes, 1, length, stream) == length && fclose(stream) == 0);
 }
 
-/* Images of a file, in both byte orders, by mapping it and by reading it whole. */
+/* Images of a file, in both byte orders. */
 static void images(const char *path) {
-    static uint8_t bytes[4096], memory[4096];
+    static uint8_t bytes[4096];
     edf_image image;
     size_t position = 99, length = plain_file(bytes);
     write_file(path, bytes, length);
-    for (int way = 0; way < 4; way++) {
-        uint8_t order = way % 2 ? EDF_LOW_BYTE_FIRST : EDF_HIGH_BYTE_FIRST;
-        const char *expected = way % 2 ? "\1\0\2\0\3\0\4\1" : "\0\1\0\2\0\3\1\4";
-        CHECK(edf_image_open(path, &image) == EDF_OK && image.file_length == length);
-        CHECK((way < 2 ? edf_image_map(&image, 0, order, &position) : edf_image_load(&image, memory, 0, order, &position)) == EDF_OK);
-        CHECK(image.length == 8 && image.n == 2 && image.dim1 == 2 && image.delivered == way % 2);
+    for (uint8_t order = EDF_HIGH_BYTE_FIRST; order <= EDF_LOW_BYTE_FIRST; order++) {
+        const char *expected = order == EDF_LOW_BYTE_FIRST ? "\1\0\2\0\3\0\4\1" : "\0\1\0\2\0\3\1\4";
+        CHECK(edf_image_open(path, 0, order, &image, &position) == EDF_OK && image.file_length == length);
+        CHECK(image.length == 8 && image.description.n == 2 && image.description.dim1 == 2);
+        CHECK(image.delivered == (order == EDF_LOW_BYTE_FIRST));
         CHECK(edf_image_read(&image, out, image.length, &position) == EDF_OK && memcmp(out, expected, 8) == 0 && position == 99);
         CHECK(edf_image_read(&image, out, 7, &position) == EDF_BUFFER_TOO_SMALL && position == 0);
         edf_image_close(&image);
         position = 99;
     }
-    CHECK(edf_image_open(path, &image) == EDF_OK && edf_image_map(&image, 1, EDF_LOW_BYTE_FIRST, &position) == EDF_NOT_FOUND);
-    CHECK(edf_image_map(&image, 0, EDF_LOW_BYTE_FIRST, &position) == EDF_OK && image.length == 8);
+}
+
+static void images_that_are_none(const char *path) {
+    static uint8_t bytes[4096];
+    edf_image image;
+    size_t position = 99, length = plain_file(bytes);
+    write_file(path, bytes, length);
+    image.length = 99;
+    CHECK(edf_image_open(path, 1, EDF_LOW_BYTE_FIRST, &image, &position) == EDF_NOT_FOUND && image.length == 99 && position == 0);
+    CHECK(edf_image_open(path, 0, 3, &image, &position) == EDF_BAD_ARGUMENT);
+    CHECK(edf_image_open(path, 0, EDF_LOW_BYTE_FIRST, &image, &position) == EDF_OK && image.length == 8);
     write_file(path, bytes, 516); /* cut off after it was mapped, in the middle of its pixels */
     CHECK(edf_image_read(&image, out, image.length, &position) == EDF_SYSTEM_ERROR && errno == EIO);
     edf_image_close(&image);
     write_file(path, bytes, 0);
-    CHECK(edf_image_open(path, &image) == EDF_OK && edf_image_map(&image, 0, EDF_LOW_BYTE_FIRST, &position) == EDF_NO_HEADER);
-    edf_image_close(&image);
-    CHECK(edf_image_open("/nowhere/image.edf", &image) == EDF_SYSTEM_ERROR && errno == ENOENT);
-    CHECK(edf_image_open("/", &image) == EDF_SYSTEM_ERROR && errno == EISDIR);
+    CHECK(edf_image_open(path, 0, EDF_LOW_BYTE_FIRST, &image, &position) == EDF_NO_HEADER);
+    position = 99;
+    CHECK(edf_image_open("/nowhere/image.edf", 0, EDF_LOW_BYTE_FIRST, &image, &position) == EDF_SYSTEM_ERROR && errno == ENOENT);
+    CHECK(edf_image_open("/", 0, EDF_LOW_BYTE_FIRST, &image, &position) == EDF_SYSTEM_ERROR && errno == EISDIR);
+    CHECK(edf_image_open("/dev/null", 0, EDF_LOW_BYTE_FIRST, &image, &position) == EDF_SYSTEM_ERROR && errno == ESPIPE);
+    CHECK(position == 99);
 }
 
-/* An array that is read by several threads: its bytes differ along all of it. */
+/* An array of some megabytes: its bytes differ along all of it. */
 static void large_image(const char *path) {
     enum { SIDE = 2048, SIZE = 4 * SIDE * SIDE };
     uint8_t *bytes = malloc(512 + SIZE), *read = malloc(SIZE);
@@ -160,7 +175,7 @@ static void large_image(const char *path) {
     memcpy(bytes + 510, "}\n", 2);
     for (size_t i = 0; i < SIZE; i++) bytes[512 + i] = (uint8_t)(i * 2654435761u >> 13);
     write_file(path, bytes, 512 + SIZE);
-    CHECK(edf_image_open(path, &image) == EDF_OK && edf_image_map(&image, 0, EDF_LOW_BYTE_FIRST, &position) == EDF_OK);
+    CHECK(edf_image_open(path, 0, EDF_LOW_BYTE_FIRST, &image, &position) == EDF_OK && image.delivered == 1);
     CHECK(edf_image_read(&image, read, SIZE, &position) == EDF_OK && memcmp(read, bytes + 512, SIZE) == 0);
     edf_image_close(&image);
     free(bytes);
@@ -214,8 +229,8 @@ static void words(void) {
 
 int main(int count, char **arguments) {
     if (count != 2) return fputs("usage: calls PATH (of a file that it may write)\n", stderr), 2;
-    writing(), opening(), keywords(), arrays(), stored_arrays(), listing(), keyword_list(), words();
-    images(arguments[1]), large_image(arguments[1]);
+    writing(), opening(), keywords(), descriptions(), arrays(), stored_arrays(), listing(), keyword_list(), words();
+    images(arguments[1]), images_that_are_none(arguments[1]), large_image(arguments[1]);
     printf("%d passed, %d failed\n", passed, wrong);
     return wrong != 0;
 }

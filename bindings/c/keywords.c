@@ -1,5 +1,5 @@
 /* The keywords of a header, listed. The proved calls look keys up and do not list them; so the statements are found here, by the rule
- * of document 01: a body is between `{` and `}`, a statement ends at the first `;` after its `=`, its key at the first `=`. The text
+ * of the format: a body is between `{` and `}`, a statement ends at the first `;` after its `=`, its key at the first `=`. The text
  * of each value is edf_unescape's. */
 #include "edf.h"
 

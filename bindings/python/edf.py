@@ -28,10 +28,8 @@ import io
 import mmap
 import operator
 import os
-import stat
-import struct
 import sys
-from ctypes import POINTER, byref, c_char, c_char_p, c_double, c_float, c_int, c_int64, c_size_t, c_uint8, c_uint32, c_uint64, c_void_p
+from ctypes import POINTER, byref, c_char, c_char_p, c_double, c_float, c_int64, c_size_t, c_uint8, c_uint32, c_uint64, c_void_p
 from typing import NamedTuple, Optional, Tuple
 
 MOST_BLOCKS = 256
@@ -44,25 +42,22 @@ _HEADER_CAPACITY = 4096  # more than the header and the filling of a written fil
 # ---- The library
 
 
-# Numbers that calls set, each in eight bytes; the last is the position of an error.
-_ROW = struct.Struct("=4QqQq")
-_TABLE_LENGTH = 7 * MOST_BLOCKS
-_Table = c_uint64 * (_TABLE_LENGTH + 2)  # of edf_open: the rows, and how many of them are blocks
-_FIELDS = struct.Struct("=B7xB7xB7xB7x3QI4xI4xqQ")
-_Fields = c_uint64 * (_FIELDS.size // 8)  # of edf_describe, in its order
-_STORED = struct.Struct("=B23xB7x3Q24x2QB7xQ")
-_Stored = c_uint64 * (_STORED.size // 8)  # of edf_stored_array, in its order; what is not asked for is passed over
-_IMAGE = struct.Struct("=B2xB12x3Q8x2QB")  # of an edf_image: data type, n, three Dims, start, length, delivered
-_IMAGE_SIZE, _FILE_LENGTH = 96, 10  # and where its file_length is
-_Image = c_uint64 * (_IMAGE_SIZE // 8 + 1)  # an edf_image and the position of an error
-_Length = c_uint64 * 2  # of edf_read_array
-_SYSTEM_ERROR = 255
-_PATH_ENCODING = sys.getfilesystemencoding(), sys.getfilesystemencodeerrors()
-# A file of at most _SMALL bytes is quicker to read whole than to map, if it holds one array as it is delivered and little else. Images
-# come in series of one form: the last one tells. A file of at most _SMALLER bytes is always read whole.
-_SMALL, _SMALLER = 6 << 20, 1 << 20
-_reads_whole = True
+class _Row(ctypes.Structure):
+    """edf_row"""
 
+    _fields_ = [("start", c_uint64), ("header", c_uint64), ("size", c_uint64), ("kind", c_uint64), ("sequence", c_int64),
+                ("instance", c_uint64), ("memory", c_int64)]
+
+
+class _Description(ctypes.Structure):
+    """edf_description"""
+
+    _fields_ = [(name, c_uint64) for name in ("datatype", "byteorder", "compression", "n", "dim1", "dim2", "dim3", "configuration",
+                                              "orientation")] + [("offset", c_int64)]
+
+
+_Table = _Row * MOST_BLOCKS
+_TABLE_LENGTH = 7 * MOST_BLOCKS  # in numbers
 _Front = c_char * 0  # the front of a buffer, which may be empty
 
 
@@ -71,12 +66,12 @@ def _load():
     named = os.environ.get("EDF_LIBRARY")
     beside = [os.path.join(here, "libedf.so"), os.path.join(here, "..", "..", "target", "lib", "libedf.so")]
     paths = [named] if named else [path for path in beside if os.path.exists(path)] + ["libedf.so"]
-    library = ctypes.CDLL(paths[0], use_errno=True)
+    library = ctypes.CDLL(paths[0])
     bytes_in, number_out = [c_void_p, c_size_t], POINTER(c_size_t)
     keyword = bytes_in + [c_size_t] + bytes_in
     buffer_out = [c_void_p, c_size_t, number_out, number_out]
     calls = {
-        "edf_open": bytes_in + [c_void_p, c_size_t, c_void_p, c_void_p],
+        "edf_open": bytes_in + [c_void_p, c_size_t, number_out, number_out],
         "edf_list": bytes_in + buffer_out,
         "edf_find": keyword + [number_out] * 3,
         "edf_text": keyword + buffer_out,
@@ -84,14 +79,9 @@ def _load():
         "edf_keywords": bytes_in + buffer_out,
         "edf_escape": bytes_in + buffer_out,
         "edf_unescape": bytes_in + buffer_out,
-        "edf_describe": bytes_in + [c_size_t] + [c_void_p] * len(_Fields()),
-        "edf_stored_array": bytes_in + [c_size_t, c_uint8] + [c_void_p] * len(_Stored()),
-        "edf_image_open": [c_char_p, c_void_p],
-        "edf_image_map": [c_void_p, c_size_t, c_uint8, c_void_p],
-        "edf_image_load": [c_void_p, c_void_p, c_size_t, c_uint8, c_void_p],
-        "edf_image_read": [c_void_p, c_void_p, c_size_t, c_void_p],
-        "edf_read_bytes": [c_int, c_uint64, c_void_p, c_size_t],
-        "edf_read_array": bytes_in + [c_size_t, c_uint8, c_void_p, c_size_t, c_void_p, c_void_p],
+        "edf_describe": bytes_in + [c_size_t, POINTER(_Description), number_out],
+        "edf_stored_array": bytes_in + [c_size_t, c_uint8, POINTER(_Description), number_out, number_out, POINTER(c_uint8), number_out],
+        "edf_read_array": bytes_in + [c_size_t, c_uint8] + buffer_out,
         "edf_read_pixel": bytes_in + [c_size_t] * 4
         + [POINTER(c_uint8), POINTER(c_uint64), POINTER(c_int64), POINTER(c_float), POINTER(c_double), number_out],
         "edf_write": [c_int64, c_uint8, c_int64, c_uint8, c_uint8, c_uint8, c_size_t, c_size_t, c_size_t, c_uint32]
@@ -104,7 +94,6 @@ def _load():
                            ("edf_byteorder_name", c_uint8)):
         function = getattr(library, name)
         function.argtypes, function.restype = [argument], c_char_p
-    library.edf_image_close.argtypes, library.edf_image_close.restype = [c_void_p], None
     library.edf_part.argtypes, library.edf_part.restype = bytes_in + [c_size_t, c_size_t], c_size_t
     library.edf_datatype_width.argtypes, library.edf_datatype_width.restype = [c_uint8], c_size_t
     return library
@@ -252,16 +241,12 @@ def _encoded(text):
 
 def _numpy():
     """numpy, or None where it is not installed."""
-    global _numpy_module
-    if _numpy_module is False:
-        try:
-            import numpy as _numpy_module
-        except ImportError:
-            _numpy_module = None
-    return _numpy_module
+    try:
+        import numpy
+    except ImportError:
+        return None
+    return numpy
 
-
-_numpy_module = False
 
 # ---- Text
 
@@ -300,20 +285,16 @@ class Header(collections.abc.Mapping):
     header come first, then those of the general header that hold for the block."""
 
     def __init__(self, own, general):
-        self._texts, self._written = own, None  # text by key; key by folded key, made when it is needed
-        if general:
-            taken = {key.lower() for key in own}
-            own.update((key, text) for key, text in general.items() if key.lower() not in taken and not key.lower().startswith("edf_"))
+        taken = {key.lower() for key in own}
+        held = {key: text for key, text in general.items() if key.lower() not in taken and not key.lower().startswith("edf_")}
+        self._texts = {**own, **held}  # by key as it is written
+        self._written = {key.lower(): key for key in self._texts}  # by key as keys are compared
 
     def _found(self, key):
         """The key as it is written in the header, or None."""
         if key in self._texts:
             return key
-        if not isinstance(key, (str, bytes)):
-            return None
-        if self._written is None:
-            self._written = {written.lower(): written for written in self._texts}
-        return self._written.get(_folded(key))
+        return self._written.get(_folded(key)) if isinstance(key, (str, bytes)) else None
 
     def __getitem__(self, key):
         found = self._found(key)
@@ -340,106 +321,117 @@ class Header(collections.abc.Mapping):
 # ---- Files
 
 
+class _Place(NamedTuple):
+    """Where a call on a block looks: bytes, the block's number there, the start in the file, and what keeps the bytes there."""
+
+    address: int
+    length: int
+    number: int
+    start: int
+    owner: object
+
+
 def _opened(address, length):
-    """The rows of a file's blocks."""
-    table = _Table()
-    rows = ctypes.addressof(table)
-    count = rows + 8 * _TABLE_LENGTH
-    code = _library.edf_open(address, length, rows, _TABLE_LENGTH, count, count + 8)
+    """The blocks of a file."""
+    table, count, position = _Table(), c_size_t(), c_size_t()
+    code = _library.edf_open(address, length, table, _TABLE_LENGTH, byref(count), byref(position))
     if code:
-        raise EdfError(code, table[-1])
-    return [_ROW.unpack_from(table, number * _ROW.size) for number in range(table[-2])]
+        raise EdfError(code, position.value)
+    return tuple(_block(number, table[number]) for number in range(count.value))
 
 
-def _block(number, start, header_length, data_length, kind, sequence, instance, memory):
-    identity = Identity(sequence, _INSTANCES[instance], memory) if instance else None
-    return Block(number, start, header_length, data_length, "data" if kind else "general", identity)
+def _block(number, row):
+    identity = Identity(row.sequence, _INSTANCES[row.instance], row.memory) if row.instance else None
+    return Block(number, row.start, row.header, row.size, "data" if row.kind else "general", identity)
+
+
+def _is_alone(place, block):
+    """Whether the library opens the bytes of a block alone as one block with the same lengths, kind and identity."""
+    try:
+        return _opened(place.address, place.length) == (block._replace(number=0, start=0),)
+    except EdfError:
+        return False
 
 
 def _answered(place, call, *arguments):
-    """A call on a block, at the place that File._place gives."""
-    address, length, number, _start, _owner = place
+    """Makes a call on a block."""
     position = c_size_t()
-    code = call(address, length, number, *arguments, byref(position))
+    code = call(place.address, place.length, place.number, *arguments, byref(position))
     if code:
         raise EdfError(code, position.value)
 
 
-def _described(place):
-    """What edf_describe says about a block's array, in its order."""
-    address, length, number, _start, _owner = place
-    fields = _Fields()
-    first = ctypes.addressof(fields)
-    code = _library.edf_describe(address, length, number, *range(first, first + _FIELDS.size, 8))
-    if code:
-        raise EdfError(code, fields[-1])
-    return _FIELDS.unpack(fields)
-
-
-def _stored(place):
-    """Of a block's array in this machine's byte order: data type, n, three Dims, offset and length of its bytes, and whether they are
-    the array as it is delivered."""
-    address, length, number, _start, _owner = place
-    fields = _Stored()
-    first = ctypes.addressof(fields)
-    code = _library.edf_stored_array(address, length, number, _NATIVE_ORDER, *range(first, first + _STORED.size, 8))
-    if code:
-        raise EdfError(code, fields[-1])
-    return _STORED.unpack(fields)[:-1]
-
-
-def _system_error(path=None):
-    """The error of a call of the system that the library made."""
-    number = ctypes.get_errno()
-    return OSError(number, os.strerror(number), path)
-
-
-def _read(place, order, out, capacity):
-    """Writes the array of a block to an address; the answer is the number of its bytes."""
-    address, length, number, _start, _owner = place
-    if out < address + length and address < out + capacity:
+def _read(place, order, out):
+    """Writes the array of a block to the front of a buffer; the answer is the number of its bytes."""
+    owner, capacity, length = _Front.from_buffer(out), memoryview(out).nbytes, c_size_t()
+    address = ctypes.addressof(owner)
+    if address < place.address + place.length and place.address < address + capacity:
         raise ValueError("the array would be written over the bytes of its file")
-    written = _Length()
-    first = ctypes.addressof(written)
-    code = _library.edf_read_array(address, length, number, order, out, capacity, first, first + 8)
-    if code:
-        raise EdfError(code, written[-1])
-    return written[0]
+    _answered(place, _library.edf_read_array, order, address, capacity, byref(length))
+    return length.value
 
 
-class _Descriptor:
-    """The descriptor of an open file, which is closed when nothing uses it any more."""
+class _Stream(io.FileIO):
+    """An open file, which is closed when no File and no call uses it any more."""
 
-    __slots__ = ("number",)
+    __del__ = io.FileIO.close
 
-    def __init__(self, number):
-        self.number = number
+    def fill(self, out, offset):
+        """Fills a buffer with the bytes from an offset on."""
+        rest = memoryview(out).cast("B")
+        while rest:
+            count = os.preadv(self.fileno(), [rest], offset)
+            if count == 0:
+                raise OSError(errno.EIO, "the file ends before its array")
+            rest, offset = rest[count:], offset + count
 
-    def __del__(self, close=os.close):
-        close(self.number)
+
+def _array_for(d, length, numpy, out):
+    """What an array is put into: a new one, or `out` where it suits."""
+    if numpy is None:
+        if out is not None:
+            raise ValueError("out is for numpy arrays, and numpy is not installed: read_into takes other buffers")
+        return bytearray(length)
+    shape, kind = (d.dim3, d.dim2, d.dim1)[3 - d.n :], _NUMPY_TYPES[d.datatype]
+    if out is None:
+        return numpy.empty(shape, kind)
+    if not (isinstance(out, numpy.ndarray) and out.shape == shape and out.dtype == kind and out.flags.c_contiguous
+            and out.flags.writeable):
+        raise ValueError("out must be a numpy array of shape %s, type %s and this machine's byte order, C-contiguous and writable"
+                         % (shape, kind[1:]))
+    return out
+
+
+def _array(place, stream, out=None):
+    """The array of a block. It is read from the file, where that is open and stores it as it is asked for; else the library makes it."""
+    numpy = _numpy()
+    d, start, length, delivered = _Description(), c_size_t(), c_size_t(), c_uint8()
+    _answered(place, _library.edf_stored_array, _NATIVE_ORDER, byref(d), byref(start), byref(length), byref(delivered))
+    out = _array_for(d, length.value, numpy, out)
+    if delivered.value and stream is not None:
+        stream.fill(out, place.start + start.value)
+    else:
+        _read(place, _NATIVE_ORDER, out)
+    return out if numpy else bytes(out)
 
 
 class File:
     """A file, opened: its bytes and its blocks. The bytes must not change while a call runs; they are not copied where they are
     bytes or a writable buffer."""
 
-    def __init__(self, data, _descriptor=None):
-        self._descriptor = _descriptor  # of the file that the bytes are mapped from
+    def __init__(self, data, _stream=None):
+        self._stream = _stream  # the file that the bytes are mapped from
         self._bytes = address, length, _owner = _lent(data)
-        self._rows = _opened(address, length)
-        self._parts = {} if len(self._rows) > 1 else {0: (0, length, 0)}
-        self._blocks = None
+        self._blocks = _opened(address, length)
 
     @property
     def blocks(self):
         """The blocks of the file, in order."""
-        if self._blocks is None:
-            self._blocks = tuple(_block(number, *row) for number, row in enumerate(self._rows))
         return self._blocks
 
     def close(self):
         """Lets the file's bytes go."""
-        self._bytes = self._descriptor = None
+        self._bytes = self._stream = None
 
     def __enter__(self):
         return self
@@ -448,41 +440,27 @@ class File:
         self.close()
 
     def __len__(self):
-        return len(self._rows)
+        return len(self._blocks)
 
     def _has_general_block(self):
-        return self._rows[0][3] == 0
+        return self._blocks[0].kind == "general"
 
-    def _number(self, block):
-        """The number of a block that there is: ctypes would cut others to their low bits."""
+    def _block(self, block):
+        """A block that there is: ctypes would cut other numbers to their low bits."""
         number = operator.index(block)
-        if not 0 <= number < len(self._rows):
+        if not 0 <= number < len(self._blocks):
             raise EdfError(Code.NOT_FOUND, 0)
-        return number
+        return self._blocks[number]
 
     def _place(self, block):
-        """Where a call on a block looks, as little of the file as answers the same: address, length, the block's number there, the
-        start in the file, and what keeps the bytes there."""
-        number = self._number(block)
-        address, length, owner = self._open_bytes()
-        start, length, number = self._parts.get(number) or self._part(address, length, number)
-        return address + start, length, number, start, owner
-
-    def _part(self, address, length, number):
-        """Start and length of the part of the file in which calls on a block answer as in the whole file, and the block's number
-        there. A call judges the whole file that it gets, so that with the whole file each would cost the time of all headers.
-        A block of a file without a general block is looked at by itself, if the library opens its bytes alone as one block with
-        the same lengths, kind and identity: its answers then hang on the same header and the same data."""
-        part, row = (0, length, number), self._rows[number]
-        start, size = row[0], row[1] + row[2]
-        if not self._has_general_block():
-            try:
-                if _opened(address + start, size) == [(0,) + row[1:]]:
-                    part = start, size, 0
-            except EdfError:
-                pass
-        self._parts[number] = part
-        return part
+        """Where a call on a block looks: as little of the file as answers the same. A call judges the whole file that it gets, so
+        that with the whole file each would cost the time of all headers. A block of a file without a general block is looked at by
+        itself, if it is the same alone: its answers then hang on the same header and the same data."""
+        block, (address, length, owner) = self._block(block), self._open_bytes()
+        alone = _Place(address + block.start, block.header_length + block.data_length, 0, block.start, owner)
+        if len(self._blocks) > 1 and not self._has_general_block() and _is_alone(alone, block):
+            return alone
+        return _Place(address, length, block.number, 0, owner)
 
     def _open_bytes(self):
         lent = self._bytes
@@ -492,14 +470,14 @@ class File:
 
     def header(self, block):
         """The keywords of a block, a mapping from keys to text."""
-        number = self._number(block)
-        general = self._keywords(0) if number != 0 and self._has_general_block() else {}
-        return Header(self._keywords(number), general)
+        block = self._block(block)
+        general = self._keywords(self._blocks[0]) if block.number != 0 and self._has_general_block() else {}
+        return Header(self._keywords(block), general)
 
-    def _keywords(self, number):
+    def _keywords(self, block):
         """The keywords of a block's own header."""
-        (address, _length, _owner), row = self._open_bytes(), self._rows[number]
-        return _keywords(address + row[0], row[1])
+        address, _length, _owner = self._open_bytes()
+        return _keywords(address + block.start, block.header_length)
 
     def part(self, offset, length):
         """The bytes at a span of the file, as `find` gives it; none where it does not lie inside."""
@@ -513,7 +491,7 @@ class File:
         key, offset, length = _encoded(key), c_size_t(), c_size_t()
         place = self._place(block)
         _answered(place, _library.edf_find, key, len(key), byref(offset), byref(length))
-        return place[3] + offset.value, length.value
+        return place.start + offset.value, length.value
 
     def text(self, block, key):
         """The value of a keyword as text."""
@@ -529,45 +507,21 @@ class File:
 
     def describe(self, block):
         """The description of a block's array."""
-        datatype, byteorder, _, n, dim1, dim2, dim3, configuration, orientation, offset, _ = _described(self._place(block))
-        words = _DATA_TYPES[datatype], _BYTE_ORDERS[byteorder], "None"
-        return Description(*words, (dim1, dim2, dim3)[:n], configuration, orientation, offset)
+        d = _Description()
+        _answered(self._place(block), _library.edf_describe, byref(d))
+        words = _DATA_TYPES[d.datatype], _BYTE_ORDERS[d.byteorder], "None"
+        return Description(*words, (d.dim1, d.dim2, d.dim3)[: d.n], d.configuration, d.orientation, d.offset)
 
     def array(self, block, out=None):
         """The array of a block, in raster configuration 1 and with its value offset added: a numpy array of this machine's byte
         order, shape (.., Dim_2, Dim_1); where numpy is not installed, bytes of this machine's byte order. It is put into `out` where
         that is given: a numpy array of just this type, byte order and shape, C-contiguous and writable."""
-        place, numpy = self._place(block), _numpy()
-        if numpy is None and out is not None:
-            raise ValueError("out is for numpy arrays, and numpy is not installed: read_into takes other buffers")
-        datatype, n, dim1, dim2, dim3, start, length, delivered = _stored(place)
-        if numpy is None:
-            data = bytearray(max(length, 1))
-            self._fill(place, start, length, delivered, c_char.from_buffer(data))
-            return bytes(memoryview(data)[:length])
-        shape, kind = (dim3, dim2, dim1)[3 - n :], _NUMPY_TYPES[datatype]
-        if out is None:
-            out = numpy.empty(shape, kind)
-        elif not (isinstance(out, numpy.ndarray) and out.shape == shape and out.dtype == kind and out.flags.c_contiguous
-                  and out.flags.writeable):
-            raise ValueError("out must be a numpy array of shape %s, type %s and this machine's byte order, C-contiguous and writable"
-                             % (shape, kind[1:]))
-        self._fill(place, start, length, delivered, _Front.from_buffer(out))
-        return out
-
-    def _fill(self, place, start, length, delivered, owner):
-        """Puts an array in this machine's byte order where `owner` is. Where it is stored so, its bytes are read from the file."""
-        descriptor = self._descriptor
-        if not delivered or descriptor is None:
-            _read(place, _NATIVE_ORDER, ctypes.addressof(owner), length)
-        elif _library.edf_read_bytes(descriptor.number, place[3] + start, ctypes.addressof(owner), length):
-            raise _system_error()
+        return _array(self._place(block), self._stream, out)
 
     def read_into(self, block, out, byte_order=_NATIVE):
         """The array of a block at the front of a writable buffer, as a bytearray or a contiguous numpy array; the answer is the
         number of bytes."""
-        owner, order = c_char.from_buffer(out), _number_of(_BYTE_ORDERS, byte_order, "byte_order")
-        return _read(self._place(block), order, ctypes.addressof(owner), memoryview(out).nbytes)
+        return _read(self._place(block), _number_of(_BYTE_ORDERS, byte_order, "byte_order"), out)
 
     def pixel(self, block, i1, i2=0, i3=0):
         """One pixel. Indices count from 0; index 1 runs fastest."""
@@ -577,85 +531,28 @@ class File:
         return numbers[class_.value - 1].value
 
 
+def _mapped(path):
+    """The bytes of a file, mapped, and the open file; its bytes and None where there is nothing to map: an empty file, or a pipe."""
+    stream = _Stream(os.fspath(path))
+    if os.fstat(stream.fileno()).st_size == 0:
+        return stream.readall(), None
+    return mmap.mmap(stream.fileno(), 0, access=mmap.ACCESS_COPY), stream
+
+
 def open(path):
     """Opens a file by its path. It is mapped, so that only what is asked for is read; no other program may change it meanwhile. A
     file that may change is read instead: edf.File(pathlib.Path(path).read_bytes())."""
-    descriptor = _Descriptor(os.open(path, os.O_RDONLY))
-    try:
-        data = mmap.mmap(descriptor.number, 0, access=mmap.ACCESS_COPY)
-    except (OSError, ValueError):
-        status = os.fstat(descriptor.number)
-        if stat.S_ISDIR(status.st_mode):
-            raise IsADirectoryError(errno.EISDIR, os.strerror(errno.EISDIR), os.fspath(path)) from None
-        if status.st_size != 0:
-            raise
-        with io.open(descriptor.number, "rb", buffering=0, closefd=False) as stream:  # nothing to map: an empty file, or a pipe
-            data = stream.read()
-        descriptor = None
-    return File(data, descriptor)
+    return File(*_mapped(path))
 
 
 def read(path, block=0):
-    """The array of a block of a file by its path, as File.array gives it: the quickest way to one image. No other program may change
-    the file meanwhile."""
-    numpy, number = _numpy(), operator.index(block)
-    name = path.encode(*_PATH_ENCODING) if type(path) is str else os.fsencode(path)
-    if b"\0" in name:
-        raise ValueError("embedded null byte")
-    image = _Image()
-    address = ctypes.addressof(image)
-    if not 0 <= number < MOST_BLOCKS or _library.edf_image_open(name, address):
-        with open(path) as file:  # no number of a block, or no regular file: what `open` makes of it
-            return file.array(block)
-    size = image[_FILE_LENGTH]
-    if numpy and (size <= _SMALLER or size <= _SMALL and _reads_whole):
-        return _loaded(path, image, address, number, numpy)
-    try:
-        return _mapped(path, image, address, number, numpy)
-    finally:
-        _library.edf_image_close(address)
-
-
-def _checked(code, path, image):
-    if code:
-        raise _system_error(path) if code == _SYSTEM_ERROR else EdfError(code, image[-1])
-
-
-def _loaded(path, image, address, number, numpy):
-    """An array of a file that is read whole. It is a part of the bytes read, where they hold it as it is asked for and little else."""
-    global _reads_whole
-    size = image[_FILE_LENGTH]
-    try:
-        whole = numpy.empty(size + 63, "u1")
-    except MemoryError:
-        _library.edf_image_close(address)
-        raise
-    owner = _Front.from_buffer(whole)
-    memory = ctypes.addressof(owner)
-    front = -memory % 64  # bytes go quicker to a line of the caches than past one's start
-    _checked(_library.edf_image_load(address, memory + front, number, _NATIVE_ORDER, address + _IMAGE_SIZE), path, image)
-    datatype, n, dim1, dim2, dim3, start, length, delivered = _IMAGE.unpack_from(image)
-    shape, kind = (dim3, dim2, dim1)[3 - n :], _NUMPY_TYPES[datatype]
-    is_file = delivered and 2 * length > size
-    _reads_whole = bool(is_file)
-    if is_file and start % 8 == 0:
-        return numpy.ndarray(shape, kind, whole, front + start)
-    out = numpy.empty(shape, kind)
-    owner = _Front.from_buffer(out)
-    _checked(_library.edf_image_read(address, ctypes.addressof(owner), length, address + _IMAGE_SIZE), path, image)
-    return out
-
-
-def _mapped(path, image, address, number, numpy):
-    """An array of a file that is mapped."""
-    global _reads_whole
-    _checked(_library.edf_image_map(address, number, _NATIVE_ORDER, address + _IMAGE_SIZE), path, image)
-    datatype, n, dim1, dim2, dim3, _start, length, delivered = _IMAGE.unpack_from(image)
-    _reads_whole = bool(delivered) and 2 * length > image[_FILE_LENGTH]
-    out = numpy.empty((dim3, dim2, dim1)[3 - n :], _NUMPY_TYPES[datatype]) if numpy else bytearray(max(length, 1))
-    owner = _Front.from_buffer(out)
-    _checked(_library.edf_image_read(address, ctypes.addressof(owner), length, address + _IMAGE_SIZE), path, image)
-    return out if numpy else bytes(memoryview(out)[:length])
+    """The array of a block of a file by its path, as `open` and File.array give it. The file is judged once."""
+    number = operator.index(block)
+    if not 0 <= number < MOST_BLOCKS:
+        number = MOST_BLOCKS  # which no block has: ctypes would cut other numbers
+    data, stream = _mapped(path)
+    address, length, owner = _lent(data)
+    return _array(_Place(address, length, number, 0, owner), stream)
 
 
 def listing(data):

@@ -1,4 +1,4 @@
-//! `edf list`: what the lister of document 01 prints, for files of any allowed length.
+//! `edf list`: what the lister prints, for files of any allowed length.
 
 use crate::failure::{Failure, Status};
 use crate::input;

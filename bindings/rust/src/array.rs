@@ -19,14 +19,14 @@ pub struct Description {
     pub orientation: u32,
     /// What is added to each stored whole number. [`Array::read`] and [`Array::pixel`] have done so.
     pub offset: i64,
-    n: u8,
+    n: usize,
     dims: [usize; 3],
 }
 
 impl Description {
     /// Its dimensions, one to three; the first index runs fastest. An empty array has the dimension 0.
     pub fn dims(&self) -> &[usize] {
-        &self.dims[..usize::from(self.n)]
+        &self.dims[..self.n]
     }
 
     /// The number of its elements.
@@ -74,11 +74,11 @@ impl<'a> Array<'a> {
             data_type: DataType::of(f.datatype),
             byte_order: ByteOrder::of(f.byteorder),
             compression: Compression::of(f.compression),
-            configuration: f.configuration,
-            orientation: f.orientation,
+            configuration: f.configuration as u32,
+            orientation: f.orientation as u32,
             offset: f.offset,
-            n: f.n,
-            dims: f.dims,
+            n: f.n as usize,
+            dims: f.dims.map(|dim| dim as usize),
         };
         Ok(Array { file, block, description })
     }

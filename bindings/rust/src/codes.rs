@@ -34,8 +34,8 @@ impl DataType {
         DataType::FloatIEEE64,
     ];
 
-    pub(crate) fn of(number: u8) -> DataType {
-        *DataType::ALL.get(usize::from(number).wrapping_sub(1)).expect("the library answers 1 to 10")
+    pub(crate) fn of(number: u64) -> DataType {
+        *DataType::ALL.get((number as usize).wrapping_sub(1)).expect("the library answers 1 to 10")
     }
 
     /// The word for it in a file.
@@ -62,7 +62,7 @@ impl ByteOrder {
     /// The order of this machine.
     pub const NATIVE: ByteOrder = if cfg!(target_endian = "big") { ByteOrder::HighByteFirst } else { ByteOrder::LowByteFirst };
 
-    pub(crate) fn of(number: u8) -> ByteOrder {
+    pub(crate) fn of(number: u64) -> ByteOrder {
         match number {
             1 => ByteOrder::HighByteFirst,
             2 => ByteOrder::LowByteFirst,
@@ -85,7 +85,7 @@ pub enum Compression {
 }
 
 impl Compression {
-    pub(crate) fn of(number: u8) -> Compression {
+    pub(crate) fn of(number: u64) -> Compression {
         match number {
             1 => Compression::None,
             _ => unreachable!("the library answers 1"),

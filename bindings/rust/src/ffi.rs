@@ -35,19 +35,15 @@ extern "C" {
         value: *const u8, value_length: usize, out: *mut u8, out_length: usize, length: *mut usize, position: *mut usize,
     ) -> u8;
     fn edf_describe(
-        file: *const u8, file_length: usize, block: usize, datatype: *mut u8, byteorder: *mut u8, compression: *mut u8,
-        n: *mut u8, dim1: *mut usize, dim2: *mut usize, dim3: *mut usize, configuration: *mut u32, orientation: *mut u32,
-        offset: *mut i64, position: *mut usize,
+        file: *const u8, file_length: usize, block: usize, description: *mut Fields, position: *mut usize,
     ) -> u8;
     fn edf_read_array(
         file: *const u8, file_length: usize, block: usize, order: u8, out: *mut u8, out_length: usize, length: *mut usize,
         position: *mut usize,
     ) -> u8;
     fn edf_stored_array(
-        file: *const u8, file_length: usize, block: usize, order: u8, datatype: *mut u8, byteorder: *mut u8,
-        compression: *mut u8, n: *mut u8, dim1: *mut usize, dim2: *mut usize, dim3: *mut usize, configuration: *mut u32,
-        orientation: *mut u32, offset: *mut i64, start: *mut usize, length: *mut usize, delivered: *mut u8,
-        position: *mut usize,
+        file: *const u8, file_length: usize, block: usize, order: u8, description: *mut Fields, start: *mut usize,
+        length: *mut usize, delivered: *mut u8, position: *mut usize,
     ) -> u8;
     fn edf_read_pixel(
         file: *const u8, file_length: usize, block: usize, i1: usize, i2: usize, i3: usize, class: *mut u8,
@@ -68,16 +64,17 @@ extern "C" {
     fn edf_byteorder_name(byteorder: u8) -> *const c_char;
 }
 
-/// The fields of `edf_describe`, in its order.
+/// The fields of `edf_description`, in its order, and `dim1`, `dim2`, `dim3` as an array.
 #[derive(Default)]
+#[repr(C)]
 pub struct Fields {
-    pub datatype: u8,
-    pub byteorder: u8,
-    pub compression: u8,
-    pub n: u8,
-    pub dims: [usize; 3],
-    pub configuration: u32,
-    pub orientation: u32,
+    pub datatype: u64,
+    pub byteorder: u64,
+    pub compression: u64,
+    pub n: u64,
+    pub dims: [u64; 3],
+    pub configuration: u64,
+    pub orientation: u64,
     pub offset: i64,
 }
 
@@ -174,16 +171,11 @@ pub fn unescape(value: &[u8], out: &mut [u8]) -> Result<usize, Error> {
 }
 
 pub fn describe(file: &[u8], block: usize) -> Result<Fields, Error> {
-    let (mut f, mut position) = (Fields::default(), 0);
-    let [dim1, dim2, dim3] = &mut f.dims;
-    // SAFETY: `file` is a slice with its own length, the rest different fields of a local struct (see the top of this file).
-    let code = unsafe {
-        edf_describe(
-            file.as_ptr(), file.len(), block, &mut f.datatype, &mut f.byteorder, &mut f.compression, &mut f.n, dim1, dim2,
-            dim3, &mut f.configuration, &mut f.orientation, &mut f.offset, &mut position,
-        )
-    };
-    answer(code, position, f)
+    let (mut fields, mut position) = (Fields::default(), 0);
+    // SAFETY: `file` is a slice with its own length, the rest a local struct with the fields of edf.h's and a local number (see the
+    // top of this file).
+    let code = unsafe { edf_describe(file.as_ptr(), file.len(), block, &mut fields, &mut position) };
+    answer(code, position, fields)
 }
 
 pub fn read_array(file: &[u8], block: usize, order: u8, out: &mut [u8]) -> Result<usize, Error> {
@@ -197,14 +189,12 @@ pub fn read_array(file: &[u8], block: usize, order: u8, out: &mut [u8]) -> Resul
 
 /// The span of a block's array, start and length, if its bytes there are those that `read_array` gives in this order.
 pub fn stored_array(file: &[u8], block: usize, order: u8) -> Result<Option<(usize, usize)>, Error> {
-    let (mut f, mut start, mut length, mut delivered, mut position) = (Fields::default(), 0, 0, 0, 0);
-    let [dim1, dim2, dim3] = &mut f.dims;
-    // SAFETY: `file` is a slice with its own length, the rest different local numbers and fields (see the top of this file).
+    let (mut fields, mut start, mut length, mut delivered, mut position) = (Fields::default(), 0, 0, 0, 0);
+    // SAFETY: `file` is a slice with its own length, the rest a local struct with the fields of edf.h's and different local numbers
+    // (see the top of this file).
     let code = unsafe {
         edf_stored_array(
-            file.as_ptr(), file.len(), block, order, &mut f.datatype, &mut f.byteorder, &mut f.compression, &mut f.n, dim1,
-            dim2, dim3, &mut f.configuration, &mut f.orientation, &mut f.offset, &mut start, &mut length, &mut delivered,
-            &mut position,
+            file.as_ptr(), file.len(), block, order, &mut fields, &mut start, &mut length, &mut delivered, &mut position,
         )
     };
     answer(code, position, (delivered == 1).then_some((start, length)))

@@ -5,7 +5,7 @@ use crate::{ffi, text};
 /// Bytes that suffice for every listing.
 const CAPACITY: usize = 75_292;
 
-/// What the lister of document 01 prints for a file, at any length: `blocks` and their number, then a line for each block, or one
+/// What the lister prints for a file, at any length: `blocks` and their number, then a line for each block, or one
 /// line `refused`, code, position.
 ///
 /// ```
