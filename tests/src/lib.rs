@@ -4,8 +4,10 @@
 pub mod answer;
 pub mod both;
 pub mod compare;
+pub mod files;
 pub mod generate;
 pub mod library;
 pub mod parallel;
 pub mod planted;
 pub mod reader;
+pub mod told;

@@ -27,19 +27,15 @@ extern "C" {
         value: *const u8, value_length: usize, out: *mut u8, out_length: usize, length: *mut usize, position: *mut usize,
     ) -> u8;
     fn edf_describe(
-        file: *const u8, file_length: usize, block: usize, datatype: *mut u8, byteorder: *mut u8, compression: *mut u8,
-        n: *mut u8, dim1: *mut usize, dim2: *mut usize, dim3: *mut usize, configuration: *mut u32, orientation: *mut u32,
-        offset: *mut i64, position: *mut usize,
+        file: *const u8, file_length: usize, block: usize, description: *mut edf_description, position: *mut usize,
     ) -> u8;
     fn edf_read_array(
         file: *const u8, file_length: usize, block: usize, order: u8, out: *mut u8, out_length: usize, length: *mut usize,
         position: *mut usize,
     ) -> u8;
     fn edf_stored_array(
-        file: *const u8, file_length: usize, block: usize, order: u8, datatype: *mut u8, byteorder: *mut u8,
-        compression: *mut u8, n: *mut u8, dim1: *mut usize, dim2: *mut usize, dim3: *mut usize, configuration: *mut u32,
-        orientation: *mut u32, offset: *mut i64, start: *mut usize, length: *mut usize, delivered: *mut u8,
-        position: *mut usize,
+        file: *const u8, file_length: usize, block: usize, order: u8, description: *mut edf_description,
+        start: *mut usize, length: *mut usize, delivered: *mut u8, position: *mut usize,
     ) -> u8;
     fn edf_read_pixel(
         file: *const u8, file_length: usize, block: usize, i1: usize, i2: usize, i3: usize, class: *mut u8,
@@ -54,6 +50,23 @@ extern "C" {
         dim3: usize, configuration: u32, title: *const u8, title_length: usize, pixels: *const u8, pixels_length: usize,
         out: *mut u8, out_length: usize, length: *mut usize, position: *mut usize,
     ) -> u8;
+}
+
+/// The description of an array, as edf.h has it.
+#[allow(non_camel_case_types)]
+#[derive(Clone, PartialEq)]
+#[repr(C)]
+struct edf_description {
+    datatype: u64,
+    byteorder: u64,
+    compression: u64,
+    n: u64,
+    dim1: u64,
+    dim2: u64,
+    dim3: u64,
+    configuration: u64,
+    orientation: u64,
+    offset: i64,
 }
 
 /// What stands in a number before a call that is to leave it as it is.
@@ -125,15 +138,20 @@ pub fn open_numbers(file: &[u8], numbers: usize) -> Answer {
     }
 }
 
+/// A number that is to be a byte's; for a larger one the largest, which stands for nothing.
+fn byte(number: u64) -> u8 {
+    u8::try_from(number).unwrap_or(u8::MAX)
+}
+
 /// A row of seven numbers.
 fn row(numbers: &[u64]) -> Row {
     Row {
         start: numbers[0] as usize,
         header_length: numbers[1] as usize,
         data_length: numbers[2] as usize,
-        kind: u8::try_from(numbers[3]).unwrap_or(u8::MAX),
+        kind: byte(numbers[3]),
         sequence: numbers[4] as i64,
-        instance: u8::try_from(numbers[5]).unwrap_or(u8::MAX),
+        instance: byte(numbers[5]),
         memory: numbers[6] as i64,
     }
 }
@@ -156,48 +174,64 @@ fn whole_number(file: &[u8], block: usize, key: &[u8]) -> Answer {
     }
 }
 
-/// What stands in the numbers of a description before a call.
-const NO_DESCRIPTION: Description = Description {
-    data_type: 99, order: 99, compression: 99, n: 99, dim_1: KEPT, dim_2: KEPT, dim_3: KEPT, configuration: 99,
-    orientation: 99, offset: KEPT as i64,
-};
+fn description_pattern(index: usize) -> edf_description {
+    let number = number_pattern(index);
+    edf_description {
+        datatype: number, byteorder: number, compression: number, n: number, dim1: number, dim2: number, dim3: number,
+        configuration: number, orientation: number, offset: number as i64,
+    }
+}
+
+/// The description that a call wrote, none where anything beside it has changed.
+fn description(lent: &Lent<edf_description>) -> Option<Description> {
+    let d = lent.written(1)?.first()?;
+    Some(Description {
+        data_type: byte(d.datatype),
+        order: byte(d.byteorder),
+        compression: byte(d.compression),
+        n: byte(d.n),
+        dim_1: d.dim1 as usize,
+        dim_2: d.dim2 as usize,
+        dim_3: d.dim3 as usize,
+        configuration: u32::try_from(d.configuration).unwrap_or(u32::MAX),
+        orientation: u32::try_from(d.orientation).unwrap_or(u32::MAX),
+        offset: d.offset,
+    })
+}
 
 fn describe(file: &[u8], block: usize) -> Answer {
-    let (mut d, mut position) = (NO_DESCRIPTION, KEPT);
-    let code = unsafe {
-        edf_describe(
-            file.as_ptr(), file.len(), block, &mut d.data_type, &mut d.order, &mut d.compression, &mut d.n, &mut d.dim_1,
-            &mut d.dim_2, &mut d.dim_3, &mut d.configuration, &mut d.orientation, &mut d.offset, &mut position,
-        )
-    };
-    match code {
-        0 => if_kept(position == KEPT, Answer::Description(d)),
-        code => if_kept(d == NO_DESCRIPTION, Answer::Failed { code, position }),
+    let (mut lent, mut position) = (Lent::new(1, description_pattern), KEPT);
+    match unsafe { edf_describe(file.as_ptr(), file.len(), block, lent.start(), &mut position) } {
+        0 => match description(&lent) {
+            Some(description) => if_kept(position == KEPT, Answer::Description(description)),
+            None => Answer::Broken("something beside the description was changed"),
+        },
+        code => if_kept(lent.written(0).is_some(), Answer::Failed { code, position }),
     }
 }
 
 fn stored_array(file: &[u8], block: usize, order: u8) -> Answer {
-    let (mut d, mut start, mut length, mut delivered, mut position) = (NO_DESCRIPTION, KEPT, KEPT, 99, KEPT);
+    let (mut lent, mut start, mut length, mut delivered, mut position) =
+        (Lent::new(1, description_pattern), KEPT, KEPT, 99, KEPT);
     let code = unsafe {
         edf_stored_array(
-            file.as_ptr(), file.len(), block, order, &mut d.data_type, &mut d.order, &mut d.compression, &mut d.n,
-            &mut d.dim_1, &mut d.dim_2, &mut d.dim_3, &mut d.configuration, &mut d.orientation, &mut d.offset, &mut start,
-            &mut length, &mut delivered, &mut position,
+            file.as_ptr(), file.len(), block, order, lent.start(), &mut start, &mut length, &mut delivered, &mut position,
         )
     };
     if code != 0 {
-        let kept = d == NO_DESCRIPTION && (start, length, delivered) == (KEPT, KEPT, 99);
+        let kept = lent.written(0).is_some() && (start, length, delivered) == (KEPT, KEPT, 99);
         return if_kept(kept, Answer::Failed { code, position });
     }
-    let bytes = file.get(start..start.saturating_add(length));
-    match (delivered, bytes) {
-        (_, None) => Answer::Broken("an array that is not inside the file"),
-        (0, _) => if_kept(position == KEPT, Answer::Stored { description: d, start, length, delivered: None }),
-        (1, Some(bytes)) => {
-            if_kept(position == KEPT, Answer::Stored { description: d, start, length, delivered: Some(bytes.to_vec()) })
-        }
-        _ => Answer::Broken("a flag that is neither 0 nor 1"),
-    }
+    let Some(description) = description(&lent) else {
+        return Answer::Broken("something beside the description was changed");
+    };
+    let delivered = match (delivered, file.get(start..start.saturating_add(length))) {
+        (_, None) => return Answer::Broken("an array that is not inside the file"),
+        (0, _) => None,
+        (1, Some(bytes)) => Some(bytes.to_vec()),
+        _ => return Answer::Broken("a flag that is neither 0 nor 1"),
+    };
+    if_kept(position == KEPT, Answer::Stored { description, start, length, delivered })
 }
 
 /// The numbers of a pixel's four classes, floats as bits.

@@ -1,19 +1,8 @@
 //! The examples of 01, "Examples both sides", one by one, by the second reader and by the library.
 
 use edf_tests::both::*;
+use edf_tests::files::{array, padded};
 use edf_tests::reader::{orders, Error, Frame, Pixel};
-
-fn padded(body: &str, length: usize) -> Vec<u8> {
-    let mut header = format!("{{{body}").into_bytes();
-    header.resize(length - 2, b' ');
-    header.extend(b"}\n");
-    header
-}
-
-fn file(fields: &str, data: &[u8]) -> Vec<u8> {
-    let body = format!("EDF_DataBlockID=1.Image.Psd;EDF_BinarySize={};{fields}", data.len());
-    [padded(&body, 512), data.to_vec()].concat()
-}
 
 fn opened(file: &[u8]) -> (u8, usize) {
     open(file, 256).map_or_else(|e| (e.code, e.position), |_| (0, 0))
@@ -24,7 +13,7 @@ fn arrays_of_3_by_2() {
     let examples = [(2, [3, 2, 1, 6, 5, 4]), (5, [1, 4, 2, 5, 3, 6]), (6, [3, 6, 2, 5, 1, 4]), (7, [4, 1, 5, 2, 6, 3])];
     for (number, stored) in examples {
         let fields = format!("DataType=UnsignedByte;Dim_1=3;Dim_2=2;DataRasterConfiguration={number};");
-        assert_eq!(read_array(&file(&fields, &stored), 0, 1, 6), Ok(vec![1, 2, 3, 4, 5, 6]));
+        assert_eq!(read_array(&array(&fields, &stored), 0, 1, 6), Ok(vec![1, 2, 3, 4, 5, 6]));
     }
 }
 
@@ -33,20 +22,20 @@ fn configurations_of_three_indices() {
     assert_eq!(orders::order_of(3, 17), Some(vec![1, 3, 2]));
     assert_eq!(orders::order_of(3, 48), Some(vec![-3, -2, -1]));
     let fields = "DataType=UnsignedByte;Dim_1=1;Dim_2=1;Dim_3=1;DataRasterConfiguration=49;";
-    assert_eq!(describe(&file(fields, &[0]), 0), Err(Error { code: 18, position: 5 }));
+    assert_eq!(describe(&array(fields, &[0]), 0), Err(Error { code: 18, position: 5 }));
 }
 
 #[test]
 fn offsets() {
-    let short = file("DataType=UnsignedShort;Dim_1=1;DataValueOffset=10;", &65_530u16.to_be_bytes());
+    let short = array("DataType=UnsignedShort;Dim_1=1;DataValueOffset=10;", &65_530u16.to_be_bytes());
     assert_eq!(read_pixel(&short, 0, 0, 0, 0), Ok(Pixel::Unsigned(65_535)));
-    let byte = file("DataType=UnsignedByte;Dim_1=1;DataValueOffset=-5;", &[3]);
+    let byte = array("DataType=UnsignedByte;Dim_1=1;DataValueOffset=-5;", &[3]);
     assert_eq!(read_pixel(&byte, 0, 0, 0, 0), Ok(Pixel::Unsigned(0)));
 }
 
 #[test]
 fn texts() {
-    let values = file("a=a\\:b;b=\\\";", &[]);
+    let values = array("a=a\\:b;b=\\\";", &[]);
     assert_eq!(text(&values, 0, b"a", 3), Ok(b"a;b".to_vec()));
     assert_eq!(text(&values, 0, b"b", 0), Ok(vec![]));
     assert_eq!(escape(b"x;", 5), Ok(b"\"x\\:\"".to_vec()));
@@ -76,11 +65,11 @@ fn listing_of_the_writers_file() {
 /// "Slips to catch".
 #[test]
 fn slips() {
-    let pixels = file("DataType=UnsignedByte;Dim_1=4;", b"}\n}\n");
+    let pixels = array("DataType=UnsignedByte;Dim_1=4;", b"}\n}\n");
     assert_eq!(read_array(&pixels, 0, 1, 4), Ok(b"}\n}\n".to_vec()));
     assert_eq!(opened(&padded("a=};", 512)), (5, 0));
     for (field, fields) in [(1, "DataType=x;"), (2, "ByteOrder=x;"), (3, "Compression=x;")] {
-        assert_eq!(describe(&file(fields, &[]), 0), Err(Error { code: 17, position: field }));
+        assert_eq!(describe(&array(fields, &[]), 0), Err(Error { code: 17, position: field }));
     }
     let late = [padded("EDF_DataBlockID=1.Image.Psd;Title=;EDF_BinarySize=1;", 512), vec![0]].concat();
     assert_eq!(opened(&late), (3, 512));

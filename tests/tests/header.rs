@@ -61,6 +61,12 @@ fn of_tests(text: &str) -> Signatures {
     block.split(';').filter_map(signature).collect()
 }
 
+/// The source of the library for C, all files of it.
+fn source() -> String {
+    let folder = format!("{}/../crates/edf_c/src", env!("CARGO_MANIFEST_DIR"));
+    fs::read_dir(folder).unwrap().map(|entry| fs::read_to_string(entry.unwrap().path()).unwrap()).collect()
+}
+
 /// The names of the functions that the library for C exports; edf.h has some more, which are not of the verified library.
 fn exported(text: &str) -> BTreeSet<String> {
     let names = text.split("pub extern \"C\" fn ").skip(1).filter_map(|rest| rest.split_once('('));
@@ -69,7 +75,7 @@ fn exported(text: &str) -> BTreeSet<String> {
 
 #[test]
 fn the_same_functions() {
-    let library = exported(&read("../crates/edf_c/src/lib.rt"));
+    let library = exported(&source());
     let mut header = of_header(&read("../include/edf.h"));
     header.retain(|name, _| library.contains(name));
     println!("{header:?}");

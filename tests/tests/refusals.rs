@@ -2,30 +2,11 @@
 
 use edf_tests::answer::{Answer, Call};
 use edf_tests::both::*;
+use edf_tests::files::{self, data, general, padded, plain};
 use edf_tests::reader::{Error, Frame};
 
-fn padded(body: &str, length: usize) -> Vec<u8> {
-    let mut header = format!("{{{body}").into_bytes();
-    header.resize(length - 2, b' ');
-    header.extend(b"}\n");
-    header
-}
-
-fn plain(body: &str) -> Vec<u8> {
-    padded(body, 512)
-}
-
-fn data(id: &str, body: &str) -> Vec<u8> {
-    plain(&format!("EDF_DataBlockID={id};{body}"))
-}
-
-fn array(body: &str, length: usize) -> Vec<u8> {
-    let head = data("1.Image.Psd", &format!("EDF_BinarySize={length};{body}"));
-    [head, vec![0; length]].concat()
-}
-
-fn general(count: &str) -> Vec<u8> {
-    plain(&format!("EDF_DataFormatVersion=2.42;EDF_DataBlocks={count};"))
+fn array(fields: &str, length: usize) -> Vec<u8> {
+    files::array(fields, &vec![0; length])
 }
 
 type Outcome = (u8, usize);
@@ -122,13 +103,13 @@ fn twelve_to_fifteen() {
     assert_eq!(opened(&[data("1.Image.Psd", ""), data("+1.Image.Psd", "")].concat()), (13, 512));
     assert_eq!(opened(&plain("").repeat(256)), GOOD);
     assert_eq!(opened(&plain("").repeat(257)), (14, 131_072));
-    assert_eq!(opened(&[general("1"), data("1.Image.Psd", "")].concat()), GOOD);
-    assert_eq!(opened(&[general("2"), data("1.Image.Psd", "")].concat()), (15, 0));
+    assert_eq!(opened(&[general("1", ""), data("1.Image.Psd", "")].concat()), GOOD);
+    assert_eq!(opened(&[general("2", ""), data("1.Image.Psd", "")].concat()), (15, 0));
 }
 
 #[test]
 fn sixteen_to_eighteen() {
-    let file = [general("1"), array("DataType=UnsignedByte;Dim_1=1;a=1;b=1x;", 1)].concat();
+    let file = [general("1", ""), array("DataType=UnsignedByte;Dim_1=1;a=1;b=1x;", 1)].concat();
     assert_eq!(outcome(describe(&file, 1)), GOOD);
     assert_eq!(outcome(describe(&file, 0)), (16, 0));
     assert_eq!(outcome(describe(&file, 2)), (16, 0));

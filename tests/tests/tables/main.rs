@@ -1,0 +1,8 @@
+//! Tables of calls with the answers that 01 gives them, worked out by hand: both sides of each rule. The second reader and the library must
+//! both answer so.
+
+mod arrays;
+mod configurations;
+mod opening;
+mod values;
+mod writing;
