@@ -1,7 +1,7 @@
 -- `opened` answers what there is: the partition of a file that has one, and the error that is due of one that has none.
 use mathlib.Core.Path.{_≡_, refl, _∙_}
 use mathlib.Core.Bool.{false}
-use mathlib.Core.Logic.{_≢_, inl}
+use mathlib.Core.Logic.{_≢_}
 use mathlib.Core.List.{List, [], _∷_, _++_, append-assoc, append-nil}
 use Prim.Native.Nat.{ℕ, suc, _+_, _-_, _≤_}
 use native.Mathlib.Omega.{arith}
@@ -12,16 +12,18 @@ use Rattle.scan.specs.Chain.{Chain}
 use Rattle.scan.specs.Outcome.{ok, failed}
 use Rattle.scan.specs.declared.Error.{Error}
 use Rattle.scan.proofs.Decides.{passes, rejects}
-use Rattle.blocks.specs.Cases.{Passed, noRules, FileError, first-block, later-block, identity-twice, too-many, wrong-count}
-use Rattle.blocks.specs.Grammar.{IsBlock, DistinctIdentities, Partition}
+use Rattle.blocks.specs.Cases.{Passed, FileError, first-block, later-block, identity-twice, too-many, wrong-count}
+use Rattle.blocks.specs.Grammar.{Rules, IsBlock, DistinctIdentities, Partition}
 use Rattle.blocks.specs.Judging.{blockAt}
-use Rattle.blocks.specs.Opening.{ended, openedFrom, opened}
-use Rattle.blocks.specs.declared.FileRules.{FileRules}
+use Rattle.blocks.specs.Opening.{ended, repeats, openedFrom, opened}
+use Rattle.blocks.specs.Places.{kind-2}
 use Rattle.blocks.specs.declared.Row.{Row}
-use Rattle.blocks.proofs.BlockLaws.{Kinded, block-complete, block-error-complete, block-inside}
-use Rattle.blocks.proofs.Identities.{repeats-decides, distinct-middle}
+use Rattle.blocks.proofs.BlockLaws.{block-complete, block-error-complete, block-inside, block-named}
+use Rattle.blocks.proofs.Coded.{coded, Asking}
+use Rattle.blocks.proofs.Identities.{AllNamed, repeats-decides, distinct-middle, member-left, member-middle}
 use Rattle.blocks.proofs.Roles.{is-first, is-later}
-use Rattle.blocks.proofs.Sound.{count-decides, ended-decides, none-repeated, passed-kind, passed-past, not-first}
+use Rattle.blocks.proofs.Sound.{count-decides, ended-decides, none-repeated, noRules, no-rules-asking}
+use Rattle.blocks.proofs.Sound.{passed-asking, passed-named, passed-past, not-first}
 use Rattle.blocks.proofs.Steps.{step-done, step-count, step-full, step-failed, step-twice, step-on}
 
 module _ (s : List ℕ) where
@@ -31,35 +33,37 @@ module _ (s : List ℕ) where
 
   -- ---- Opening passes the blocks of a chain
 
-  module _ (r : FileRules) (kinded : Kinded r) (n end : ℕ) where
+  module _ (r : Rules) (asking : Asking r) (n end : ℕ) where
     walk : (xs rows : List Row) (at : ℕ) → 1 ≤ length rows → at ≢ 0 → Chain (IsBlock s r) (λ k. k ≡ end) at xs
-        → DistinctIdentities (rows ++ xs) → length (rows ++ xs) ≤ 256
-        → openedFrom (length xs + n) s rows at r ≡ openedFrom n s (rows ++ xs) end r
-    walk [] rows at some past c d few = let z : 0 + n ≡ n = omega arith in cc (z, c, append-nil rows)
-    walk (x ∷ xs) rows at some past c d few =
+        → (r .kind ≡ kind-2 → DistinctIdentities (rows ++ xs)) → AllNamed r (rows ++ xs) → length (rows ++ xs) ≤ 256
+        → openedFrom (length xs + n) s rows at (coded r) ≡ openedFrom n s (rows ++ xs) end (coded r)
+    walk [] rows at some past c d named few = let z : 0 + n ≡ n = omega arith in cc (z, c, append-nil rows)
+    walk (x ∷ xs) rows at some past c d named few =
         let join : (rows ++ (x ∷ [])) ++ xs ≡ rows ++ (x ∷ xs) = append-assoc rows (x ∷ []) xs in
         let fuel : suc (length xs) + n ≡ suc (length xs + n) = omega arith in
         let open-end : at ≢ length s = λ q. omega (arith, block-inside (c .1)) in
         let room : length rows ≢ 256 = λ q. omega (arith, length-append rows (x ∷ xs)) in
+        let fresh : repeats rows x ≡ false =
+        rejects (repeats-decides rows x (λ y m. named y (member-left rows (x ∷ xs) m)) (named x (member-middle rows x xs))) (distinct-middle rows x xs d) in
         let later : eqb (length rows) 0 ≡ false = ne-eqb (length rows) 0 (λ z. omega arith) in
         rw fuel
-        (step-on (length xs + n) s rows at r (not-ended (length rows) at open-end) room
-        (rw later (block-complete s r kinded (is-later past) (c .1) refl))
-        (rejects (repeats-decides rows x) (distinct-middle rows x xs d))
+        (step-on (length xs + n) s rows at (coded r) (not-ended (length rows) at open-end) room
+        (rw later (block-complete s r asking (is-later past) (c .1) refl))
+        fresh
         ∙ rw join at (walk xs (rows ++ (x ∷ [])) (c .0) (omega (arith, length-append rows (x ∷ []))) (λ z. omega (arith, block-inside (c .1)))
-        (c .2) (rw join d) (rw join few)))
+        (c .2) (rw join d) (rw join named) (rw join few)))
 
   -- So it comes to where blocks pass.
-  pub reach : {r : FileRules} (rows : List Row) {at : ℕ} → Passed s r rows at → (n : ℕ) → n + length rows ≡ 257
-      → opened s ≡ openedFrom n s rows at r
+  pub reach : {r : Rules} (rows : List Row) {at : ℕ} → Passed s r rows at → (n : ℕ) → n + length rows ≡ 257
+      → opened s ≡ openedFrom n s rows at (coded r)
   unfolding opened
   reach [] p n fuel = absurd (omega (arith, p .not-empty))
   reach {r} (x ∷ xs) {at} p n fuel =
       let k : length xs + n ≡ 256 = omega arith in
-      step-on 256 s [] 0 noRules (rejects (ended-decides 0 0 (length s)) (λ h. h .0 refl)) (λ z. omega arith)
-      (block-complete s noRules (inl refl) is-first (p .blocks .1) (p .first-header)) (none-repeated x)
-      ∙ rw k at (walk r (passed-kind p) n at xs (x ∷ []) (p .blocks .0) (omega arith)
-      (λ z. omega (arith, block-inside (p .blocks .1))) (p .blocks .2) (p .identities) (p .few))
+      step-on 256 s [] 0 (coded noRules) (rejects (ended-decides 0 0 (length s)) (λ h. h .0 refl)) (λ z. omega arith)
+      (block-complete s noRules no-rules-asking is-first (p .blocks .1) (p .first-header)) (none-repeated (block-named (p .blocks .1)))
+      ∙ rw k at (walk r (passed-asking p) n at xs (x ∷ []) (p .blocks .0) (omega arith)
+      (λ z. omega (arith, block-inside (p .blocks .1))) (p .blocks .2) (p .identities) (passed-named p) (p .few))
 
   -- ---- A partition is answered
 
@@ -74,15 +78,15 @@ module _ (s : List ℕ) where
       } in
       let fuel : suc (256 - length rows) + length rows ≡ 257 = omega (arith, c .few) in
       reach rows p (suc (256 - length rows)) fuel
-      ∙ step-done (256 - length rows) s rows (length s) (c .rules)
+      ∙ step-done (256 - length rows) s rows (length s) (coded (c .rules))
       (passes (ended-decides (length rows) (length s) (length s)) ((λ z. omega (arith, c .not-empty)), refl))
-      (passes (count-decides (c .rules .expected) (length rows)) (c .count))
+      (passes (count-decides (passed-asking p) (length rows)) (c .count))
 
   -- ---- And an error that is due
 
-  module _ {r : FileRules} {rows : List Row} {at : ℕ} (p : Passed s r rows at) where
+  module _ {r : Rules} {rows : List Row} {at : ℕ} (p : Passed s r rows at) where
     -- The step at which opening stands then.
-    stands : opened s ≡ openedFrom (suc (256 - length rows)) s rows at r
+    stands : opened s ≡ openedFrom (suc (256 - length rows)) s rows at (coded r)
     stands = reach rows p (suc (256 - length rows)) (omega (arith, p .few))
 
     goes-on : at ≢ length s → ended (length rows) at (length s) ≡ false
@@ -91,19 +95,19 @@ module _ (s : List ℕ) where
   pub error-complete : {e : Error} → FileError s e → opened s ≡ failed e
   unfolding opened
   error-complete (first-block q) =
-      step-failed 256 s [] 0 noRules (rejects (ended-decides 0 0 (length s)) (λ h. h .0 refl)) (λ z. omega arith)
-      (block-error-complete s noRules (inl refl) is-first q)
+      step-failed 256 s [] 0 (coded noRules) (rejects (ended-decides 0 0 (length s)) (λ h. h .0 refl)) (λ z. omega arith)
+      (block-error-complete s noRules no-rules-asking is-first q)
   error-complete (later-block {r = r} {rows = rows} {at = at} p few n q) =
-      stands p ∙ step-failed (256 - length rows) s rows at r (goes-on p n) (λ z. omega arith)
-      (rw (not-first s p) (block-error-complete s r (passed-kind p) (is-later (passed-past p)) q))
+      stands p ∙ step-failed (256 - length rows) s rows at (coded r) (goes-on p n) (λ z. omega arith)
+      (rw (not-first s p) (block-error-complete s r (passed-asking p) (is-later (passed-past p)) q))
   error-complete (identity-twice {r = r} {rows = rows} {at = at} {next = next} {row = row} p few b q) =
-      let block : blockAt s r (eqb (length rows) 0) at ≡ ok (record { row = row; next = next; rules = r }) =
-      rw (not-first s p) (block-complete s r (passed-kind p) (is-later (passed-past p)) b refl) in
-      stands p ∙ step-twice (256 - length rows) s rows at r (goes-on p (λ z. omega (arith, block-inside b))) (λ z. omega arith)
-      block (passes (repeats-decides rows row) q)
+      let block : blockAt s (coded r) (eqb (length rows) 0) at ≡ ok (record { row = row; next = next; rules = coded r }) =
+      rw (not-first s p) (block-complete s r (passed-asking p) (is-later (passed-past p)) b refl) in
+      stands p ∙ step-twice (256 - length rows) s rows at (coded r) (goes-on p (λ z. omega (arith, block-inside b))) (λ z. omega arith)
+      block (passes (repeats-decides rows row (passed-named p) (block-named b)) q)
   error-complete (too-many {r = r} {rows = rows} {at = at} p full n) =
-      stands p ∙ step-full (256 - length rows) s rows at r (goes-on p n) full
+      stands p ∙ step-full (256 - length rows) s rows at (coded r) (goes-on p n) full
   error-complete (wrong-count {r = r} {rows = rows} p n) =
-      stands p ∙ step-count (256 - length rows) s rows (length s) r
+      stands p ∙ step-count (256 - length rows) s rows (length s) (coded r)
       (passes (ended-decides (length rows) (length s) (length s)) ((λ z. omega (arith, p .not-empty)), refl))
-      (rejects (count-decides (r .expected) (length rows)) n)
+      (rejects (count-decides (passed-asking p) (length rows)) n)

@@ -1,21 +1,27 @@
 -- The rules that the first header gives the file: `rulesOf` against `Declares`.
-use mathlib.Core.Path.{_≡_, refl, sym, ap, subst}
+use mathlib.Core.Path.{_≡_, refl, sym, ap, _∙_}
 use mathlib.Core.Bool.{true, false}
-use mathlib.Core.Logic.{_⊎_, inl, inr}
-use mathlib.Core.List.{List}
+use mathlib.Core.Logic.{_≢_}
+use mathlib.Core.List.{List, []}
 use mathlib.Core.Option.{some}
 use Prim.Native.Nat.{ℕ}
 use native.Mathlib.Omega.{arith}
+use lib.ListN.{length}
 use Rattle.scan.specs.Byte.{same}
 use Rattle.scan.proofs.Cases.{by-test, by-option, none-some}
-use Rattle.scan.proofs.Decides.{decided, passes, same-decides}
-use Rattle.header.specs.Entry.{Entry, valueIn}
-use Rattle.blocks.specs.Grammar.{GeneralRules, Declares, kind-1, kind-2, with-general}
+use Rattle.scan.proofs.Decides.{decided, refuted, passes, rejects, same-decides}
+use Rattle.header.specs.Entries.{valueIn}
+use Rattle.header.specs.Entry.{Entry}
+use Rattle.blocks.specs.Counting.{first, second, isEdfKey, counting}
+use Rattle.blocks.specs.Grammar.{Rules, GeneralHeader, plainRules, Declares, plain, data-first, general-first}
 use Rattle.blocks.specs.Judging.{rulesWith, generalRules, rulesOf}
-use Rattle.blocks.specs.Keys.{VersionKey, DataBlocksKey, BlockIDKey, BoundaryKey, first, second, isEdfKey, kindOf, counting}
+use Rattle.blocks.specs.Keys.{VersionKey, DataBlocksKey, BlockIDKey, BoundaryKey}
+use Rattle.blocks.specs.Places.{kind-1, kind-2}
 use Rattle.blocks.specs.Reading.{numberOr, askedFor, isVersion}
 use Rattle.blocks.specs.declared.FileRules.{FileRules}
-use Rattle.blocks.proofs.ValueLaws.{number-sound, number-complete, asked-sound, asked-complete}
+use Rattle.blocks.proofs.Coded.{kindNumber, askedOf, coded, Asking, counting-reads}
+use Rattle.blocks.proofs.PlaceLaws.{DistinctKeys, has-key, key-at, value-at, starts-decides}
+use Rattle.blocks.proofs.ValueLaws.{number-sound, number-complete, asked-sound, asked-complete, asked-positive}
 use Rattle.blocks.proofs.VersionLaws.{version-sound, version-complete}
 
 -- The keys that start a header of kind 2 are EDF_ keys, and differ.
@@ -34,12 +40,22 @@ id-not-version = refl
 pub same-itself : (k : List ℕ) → same k k ≡ true
 same-itself k = passes (same-decides k k) refl
 
--- ---- A general header
+-- A key that is none of these bytes: it is not empty.
+pub not-empty : {k : List ℕ} → length k ≢ 0 → k ≢ []
+not-empty n e = n (ap length e)
 
-module _ (es : List Entry) (r : FileRules) where
-  general-sound : first es .key ≡ VersionKey → generalRules es ≡ some r → GeneralRules es r
+-- The rules that are read are those of the grammar, as the code holds them.
+pub record Declared (es : List Entry) (r : FileRules) : Type 0 where
+  pub rules : Rules
+  pub declares : Declares es rules
+  pub are : coded rules ≡ r
+
+module _ {es : List Entry} (distinct : DistinctKeys es) where
+  -- ---- A general header
+
+  general-sound : {r : FileRules} → first es .key ≡ VersionKey → generalRules es ≡ some r → Declared es r
   unfolding generalRules
-  general-sound k e =
+  general-sound {r} k e =
       by-test (isVersion (first es .value))
       (λ v. by-test (same (second es .key) DataBlocksKey)
       (λ d. by-option (askedFor (second es .value))
@@ -52,46 +68,74 @@ module _ (es : List Entry) (r : FileRules) where
     where
       made : isVersion (first es .value) ≡ true → same (second es .key) DataBlocksKey ≡ true
           → (n : ℕ) → askedFor (second es .value) ≡ some n → (m : ℕ) → numberOr 512 1 (valueIn BoundaryKey (counting es)) ≡ some m
-          → some (rulesWith 2 m n) ≡ some r → GeneralRules es r
-      made v d n a m b q =
-          let p : rulesWith 2 m n ≡ r = cc in
-          subst (GeneralRules es) p (record {
-            version-key = k;
-            version = version-sound v;
-            blocks-key = decided (same-decides _ _) d;
-            expected = asked-sound a;
-            boundary = number-sound b;
-            kind = refl;
-          })
+          → some (rulesWith 2 m n) ≡ some r → Declared es r
+      made v d n a m b q = record {
+        rules = record { kind = kind-2; boundary = m; general = some n };
+        declares = general-first (record {
+          version = first es .value;
+          version-key = has-key es 0 (not-empty (λ z. omega arith)) k;
+          version-is = version-sound v;
+          blocks = second es .value;
+          blocks-key = has-key es 1 (not-empty (λ z. omega arith)) (decided (same-decides _ _) d);
+          count = n;
+          asks = asked-sound a;
+          kind = refl;
+          boundary = number-sound (counting-reads distinct BoundaryKey) b;
+          general = refl;
+        });
+        are = cc;
+      }
 
-  general-complete : GeneralRules es r → generalRules es ≡ some r
+  general-complete : {r : Rules} → GeneralHeader es r → generalRules es ≡ some (coded r)
   unfolding generalRules
-  general-complete g =
-      rw (version-complete (g .version), g .blocks-key, same-itself DataBlocksKey, asked-complete (g .expected), number-complete (g .boundary))
-      (ap some (λ i. record { kind = sym (g .kind) i; boundary = r .boundary; expected = r .expected }))
+  general-complete {r} g =
+      rw (
+        value-at (g .version-key),
+        version-complete (g .version-is),
+        key-at (g .blocks-key),
+        same-itself DataBlocksKey,
+        value-at (g .blocks-key),
+        asked-complete (g .asks),
+        number-complete (counting-reads distinct BoundaryKey) (g .boundary),
+      )
+      (ap some (λ i. record { kind = kindNumber (sym (g .kind) i); boundary = r .boundary; expected = askedOf (sym (g .general) i) }))
 
   -- ---- Any first header
 
-  pub rules-sound : rulesOf es ≡ some r → Declares es r
-  unfolding rulesOf kindOf
-  rules-sound e =
+  pub rules-sound : {r : FileRules} → rulesOf es ≡ some r → Declared es r
+  unfolding rulesOf
+  rules-sound {r} e =
       by-test (isEdfKey (first es .key))
       (λ k. by-test (same (first es .key) VersionKey)
-      (λ v. with-general (general-sound (decided (same-decides _ _) v) (rw (k, v) at e)))
+      (λ v. general-sound (decided (same-decides _ _) v) (rw (k, v) at e))
       (λ v. by-test (same (first es .key) BlockIDKey)
-      (λ b. kind-2 (decided (same-decides _ _) b) (let q : some (rulesWith 2 512 0) ≡ some r = rw (k, v, b) at e in cc))
+      (λ b. record {
+        rules = plainRules kind-2;
+        declares = data-first (has-key es 0 (not-empty (λ z. omega arith)) (decided (same-decides _ _) b)) refl;
+        are = let q : some (rulesWith 2 512 0) ≡ some r = rw (k, v, b) at e in cc;
+      })
       (λ b. absurd (none-some (rw (k, v, b) at e)))))
-      (λ k. kind-1 (rw k) (let q : some (rulesWith 1 512 0) ≡ some r = rw k at e in cc))
+      (λ k. record {
+        rules = plainRules kind-1;
+        declares = plain (refuted (starts-decides es) k) refl;
+        are = let q : some (rulesWith 1 512 0) ≡ some r = rw k at e in cc;
+      })
 
-  pub rules-complete : Declares es r → rulesOf es ≡ some r
-  unfolding rulesOf kindOf
-  rules-complete (kind-1 k e) =
-      by-test (isEdfKey (first es .key)) (λ t. absurd (let z : _≡_ {A = ℕ} 2 1 = rw t at k in omega arith)) (λ f. rw f (ap some (sym e)))
-  rules-complete (kind-2 k e) = rw (k, id-edf, id-not-version, same-itself BlockIDKey) (ap some (sym e))
-  rules-complete (with-general g) = rw (g .version-key, version-edf, same-itself VersionKey) (general-complete g)
+  pub rules-complete : {r : Rules} → Declares es r → rulesOf es ≡ some (coded r)
+  unfolding rulesOf
+  rules-complete (plain n e) = rw (rejects (starts-decides es) n) (ap (λ (x : Rules). some (coded x)) (sym e))
+  rules-complete (data-first k e) =
+      rw (key-at k, id-edf, id-not-version, same-itself BlockIDKey) (ap (λ (x : Rules). some (coded x)) (sym e))
+  rules-complete (general-first g) = rw (key-at (g .version-key), version-edf, same-itself VersionKey) (general-complete g)
 
-  -- A file is of kind 1 or 2, and the boundary is not 0.
-  pub declares-kind : Declares es r → (r .kind ≡ 1) ⊎ (r .kind ≡ 2)
-  declares-kind (kind-1 k e) = inl (ap (λ (q : FileRules). q .kind) e)
-  declares-kind (kind-2 k e) = inr (ap (λ (q : FileRules). q .kind) e)
-  declares-kind (with-general g) = inr (g .kind)
+-- A general header asks for some data blocks.
+pub declares-asking : {es : List Entry} {r : Rules} → Declares es r → Asking r
+declares-asking (plain k e) = record { some-asked = λ n g. absurd (none-some (sym (ap (λ (x : Rules). x .general) e) ∙ g)) }
+declares-asking (data-first k e) = record { some-asked = λ n g. absurd (none-some (sym (ap (λ (x : Rules). x .general) e) ∙ g)) }
+declares-asking {r = r} (general-first g) = record { some-asked = asked }
+  where
+    asked : (n : ℕ) → r .general ≡ some n → n ≢ 0
+    asked n h z =
+        let same : _≡_ (some (g .count)) (some n) = sym (g .general) ∙ h in
+        let e : g .count ≡ n = cc in
+        omega (arith, asked-positive (g .asks))

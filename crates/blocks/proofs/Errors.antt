@@ -1,5 +1,4 @@
 -- Nothing is invented: the position of an error lies in the file or is its length, and its code is one of the table.
-use mathlib.Core.Bool.{Bool}
 use mathlib.Core.List.{List}
 use Prim.Native.Nat.{ℕ, _≤_}
 use native.Mathlib.Omega.{arith}
@@ -10,8 +9,7 @@ use Rattle.header.specs.Cases.{FrameError, no-start, bad-byte, no-end, Statemen
 use Rattle.header.specs.Entry.{Entry}
 use Rattle.header.specs.declared.Header.{Header}
 use Rattle.blocks.specs.Cases.{KeyError, rule-broken, file-name, bad-length, past-end, BlockError, in-frame, in-statements, no-rules, in-keys, Passed, FileError, first-block, later-block, identity-twice, too-many, wrong-count}
-use Rattle.blocks.specs.Grammar.{IsBlock}
-use Rattle.blocks.specs.declared.FileRules.{FileRules}
+use Rattle.blocks.specs.Grammar.{Rules, IsBlock}
 use Rattle.blocks.specs.declared.Row.{Row}
 use Rattle.blocks.proofs.BlockLaws.{block-inside}
 
@@ -32,19 +30,19 @@ module _ {s : List ℕ} where
     statements-bounded (too-long l) = omega arith
     statements-bounded (key-twice k) = omega arith
 
-    keys-bounded : {r : FileRules} {end header : ℕ} {es : List Entry} {e : Error} → KeyError r start end header es e → Bounded s e
+    keys-bounded : {r : Rules} {end header : ℕ} {es : List Entry} {e : Error} → KeyError r start end header es e → Bounded s e
     keys-bounded (rule-broken n) = omega arith
     keys-bounded (file-name q f) = omega arith
     keys-bounded (bad-length q f l) = omega arith
     keys-bounded (past-end q f l u) = omega arith
 
-    block-bounded : {r : FileRules} {b : Bool} {e : Error} → BlockError s r b start e → Bounded s e
+    block-bounded : {RulesAre : List Entry → Rules → Type 0} {e : Error} → BlockError s RulesAre start e → Bounded s e
     block-bounded (in-frame q) = frame-bounded q
     block-bounded (in-statements i q) = statements-bounded q
     block-bounded (no-rules k n) = omega arith
     block-bounded (in-keys k d q) = keys-bounded q
 
-  passed-inside : {r : FileRules} {rows : List Row} {at : ℕ} → Passed s r rows at → at ≤ length s
+  passed-inside : {r : Rules} {rows : List Row} {at : ℕ} → Passed s r rows at → at ≤ length s
   passed-inside {r} {rows} {at} p =
       chain-inside (IsBlock s r) (length s) (λ k x n b. block-inside b .1) at 0 rows (omega arith) (p .blocks)
 

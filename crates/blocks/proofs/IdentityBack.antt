@@ -15,6 +15,7 @@ use Rattle.text.specs.Decimal.{decimal}
 use Rattle.text.proofs.Decimals.{decimal-back, decimal-length}
 use Rattle.text.proofs.Everys.{Each}
 use Rattle.text.proofs.Parts.{each-nil}
+use Rattle.lexical.proofs.WholeLaws.{whole-sound}
 use Rattle.text.proofs.Words.{Word, WordByte, word, word-append, decimal-word}
 use Rattle.blocks.specs.IdentityText.{instanceWord, memoryText, identityText}
 use Rattle.blocks.specs.Values.{Instance, Memory, IsIdentity}
@@ -30,7 +31,7 @@ memory-back : (m : ℕ) → 1 ≤ m → SFits w64 (pos m) → Memory (memoryText
 unfolding memoryText
 memory-back m some fits =
     by-test (eqb m 1) (λ e. rw (e, eqb-true m 1 e) Memory.omitted)
-    (λ e. rw e (Memory.given (decimal-back (pos m) fits) (more (eqb-false m 1 e))))
+    (λ e. rw e (Memory.given (whole-sound (decimal (pos m)) (decimal-back (pos m) fits)) (more (eqb-false m 1 e))))
   where
     more : (m ≡ 1 → ⊥) → 2 ≤ m
     more n = omega arith
@@ -44,7 +45,7 @@ module _ (a : ℤ) (b m : ℕ) where
         word = instanceWord b;
         rest = memoryText (pos m);
         is = refl;
-        sequence-is = decimal-back a fits;
+        sequence-is = whole-sound (decimal a) (decimal-back a fits);
         instance-is = instance-word b low high;
         memory-is = memory-back m some fits-m;
       }

@@ -18,6 +18,7 @@ use Rattle.scan.proofs.Seams.{first-seam}
 use Rattle.scan.proofs.Searches.{search-is}
 use Rattle.text.specs.Number.{wholeNumber}
 use Rattle.text.proofs.Numbers.{whole-plain}
+use Rattle.lexical.proofs.WholeLaws.{whole-sound, whole-complete}
 use Rattle.blocks.specs.Reading.{afterPrefix, memoryOf, identityBy, instanceBy, imageBy, pointBy, identityOf}
 use Rattle.blocks.specs.declared.Identity.{Identity}
 use Rattle.blocks.specs.Values.{Instance, Memory, IsIdentity}
@@ -43,7 +44,7 @@ unfolding memoryOf
 memory-sound {rest = []} {m} e = rw (← Option·some-injective 1 m e) Memory.omitted
 memory-sound {rest = b ∷ rest} e =
     by-test (eqb b 46)
-    (λ q. let h = least-sound (wholeNumber rest) (rw q at e) in rw (eqb-true b 46 q) (Memory.given (h .0) (h .1)))
+    (λ q. let h = least-sound (wholeNumber rest) (rw q at e) in rw (eqb-true b 46 q) (Memory.given (whole-sound rest (h .0)) (h .1)))
     (λ q. absurd (Option·none-ne-some _ (rw q at e)))
 
 module _ (v number : List ℕ) where
@@ -58,7 +59,7 @@ module _ (v number : List ℕ) where
         word = word;
         rest = rest;
         is = e;
-        sequence-is = s;
+        sequence-is = whole-sound number s;
         instance-is = i;
         memory-is = memory-sound f;
       }
@@ -118,13 +119,13 @@ memory-is : {rest : List ℕ} {c : ℤ} → Memory rest c → (a : ℤ) (n : ℕ
     → identityBy (some a) n (memoryOf rest) ≡ some (record { sequence = a; instance = n; memory = c })
 unfolding memoryOf
 memory-is Memory.omitted a n = refl
-memory-is (Memory.given e h) a n = rw (least-complete e h)
+memory-is (Memory.given e h) a n = rw (least-complete (whole-complete e) h)
 
 -- For an identity the function answers it,
 pub identity-complete : {v : List ℕ} {a c : ℤ} {b : ℕ} → IsIdentity v a b c
     → identityOf v ≡ some (record { sequence = a; instance = b; memory = c })
 identity-complete {a} {b} h =
-    rw (h .is) (image-is (h .number) (h .word ++ h .rest) (h .sequence-is)
+    rw (h .is) (image-is (h .number) (h .word ++ h .rest) (whole-complete (h .sequence-is))
     ∙ instance-is (h .instance-is) (some a) (h .rest) ∙ memory-is (h .memory-is) a b)
 
 -- so a value has one identity at most,

@@ -1,7 +1,7 @@
 pub mod Answers
 pub mod BlockLaws
+pub mod Coded
 pub mod Complete
-pub mod Countings
 pub mod Declarations
 pub mod Errors
 pub mod Identities
@@ -9,6 +9,7 @@ pub mod IdentityBack
 pub mod IdentityLaws
 pub mod KeyErrors
 pub mod Main
+pub mod PlaceLaws
 pub mod Prefix
 pub mod Roles
 pub mod Sound

@@ -1,31 +1,74 @@
--- The main theorems about the grammar, stated. Their proofs are in the files beside this one and in `header`.
+-- The main theorems about the grammar, stated. Their proofs are in the files beside this one, in `lexical` and in `header`.
 use mathlib.Core.Path.{_≡_}
 use mathlib.Core.Logic.{_↔_}
 use mathlib.Core.List.{List, map, List·Memᴰ}
+use mathlib.Core.Option.{some}
 use Prim.Native.Nat.{ℕ, _+_, _≤_}
+use lib.IntN.{ℤ}
 use lib.ListN.{length, take}
+use Rattle.scan.specs.Byte.{bytesAt}
 use Rattle.scan.specs.Outcome.{ok, failed}
 use Rattle.scan.specs.declared.Error.{Error}
-use Rattle.header.specs.Entry.{bodyOf, key}
-use Rattle.header.specs.Grammar.{IsHeader, Distinct, Parse}
+use Rattle.text.specs.Number.{wholeNumber}
+use Rattle.text.specs.Value.{trimmed, valueSpan, valueOf}
+use Rattle.lexical.specs.Value.{Trimmed, IsValue}
+use Rattle.lexical.specs.Whole.{IsWhole}
+use Rattle.lexical.proofs.TrimLaws.{trimmed-is}
+use Rattle.lexical.proofs.ValueLaws.{value-is}
+use Rattle.lexical.proofs.WholeLaws.{whole-is}
+use Rattle.header.specs.Entries.{entries, valueIn}
+use Rattle.header.specs.Entry.{Entry, bodyOf, key}
+use Rattle.header.specs.Grammar.{IsHeader, Distinct, Parse, SayAll}
 use Rattle.header.specs.declared.Header.{Header}
 use Rattle.header.specs.declared.Statement.{Statement}
+use Rattle.header.proofs.SayLaws.{entries-say, entries-only}
 use Rattle.header.proofs.Spans.{InHeader}
 use Rattle.header.proofs.Spans
 use Rattle.header.proofs.Unambiguous as header
 use Rattle.blocks.specs.Cases.{Passed, FileError}
-use Rattle.blocks.specs.Grammar.{DistinctIdentities, Partition, Block, Cut}
+use Rattle.blocks.specs.Counting.{counting, countingIn, sizeValue}
+use Rattle.blocks.specs.Grammar.{Rules, DistinctIdentities, Partition, Block, Cut, BlockHeader}
 use Rattle.blocks.specs.Opening.{opened, openedFile}
-use Rattle.blocks.specs.declared.FileRules.{FileRules}
+use Rattle.blocks.specs.Places.{Kind, kind-2, EntryAt, Counts, CountsIn, SizeIs}
 use Rattle.blocks.specs.declared.Row.{Row}
 use Rattle.blocks.proofs.Answers.{opened-error, file-accepted}
+use Rattle.blocks.proofs.Coded.{kindNumber, kind-reads, size-reads}
 use Rattle.blocks.proofs.Complete
 use Rattle.blocks.proofs.Errors.{Bounded}
 use Rattle.blocks.proofs.Errors
+use Rattle.blocks.proofs.PlaceLaws.{DistinctKeys, counting-is}
 use Rattle.blocks.proofs.Prefix
 use Rattle.blocks.proofs.Sound
-use Rattle.blocks.proofs.Unambiguous.{RowHeader}
 use Rattle.blocks.proofs.Unambiguous
+use Rattle.blocks.proofs.ValueLaws.{reads-is}
+
+-- ---- The functions of the reader give the grammar's parts, and nothing else
+
+-- Whole numbers,
+pub whole-numbers : (l : List ℕ) {z : ℤ} → (wholeNumber l ≡ some z) ↔ IsWhole l z
+whole-numbers = whole-is
+
+-- values, and where they stand in the bytes between `=` and `;`,
+pub values : (raw : List ℕ) {offset : ℕ} {v : List ℕ} → ((valueSpan raw .offset ≡ offset) × (valueOf raw ≡ v)) ↔ IsValue raw offset v
+values = value-is
+
+pub trimming : (raw : List ℕ) {offset : ℕ} {l : List ℕ} → ((trimmed raw .offset ≡ offset) × (bytesAt raw (trimmed raw) ≡ l)) ↔ Trimmed raw offset l
+trimming = trimmed-is
+
+-- what the statements of a header say,
+pub said : (s : List ℕ) {ts : List Statement} {es : List Entry} → (es ≡ entries s ts) ↔ SayAll s ts es
+said s {ts} = (λ e. rw e (entries-say s ts), entries-only s)
+
+-- which of them count, in a file of either kind, and which gives the length of the data.
+pub counts : (es : List Entry) {n : ℕ} {e : Entry} → EntryAt (counting es) n e ↔ Counts es n e
+counts = counting-is
+
+module _ {es : List Entry} (distinct : DistinctKeys es) (kind : Kind) {v : List ℕ} where
+  pub counts-in : (k : List ℕ) → (valueIn k (countingIn (kindNumber kind) es) ≡ some v) ↔ CountsIn kind es k v
+  counts-in k = reads-is (kind-reads distinct kind k)
+
+  pub sizes : (sizeValue (kindNumber kind) es ≡ some v) ↔ SizeIs kind es v
+  sizes = reads-is (size-reads distinct kind)
 
 module _ (s : List ℕ) where
   -- ---- Unambiguous
@@ -46,9 +89,9 @@ module _ (s : List ℕ) where
   pub one-cut : {blocks others : List Block} → Cut s blocks → Cut s others → blocks ≡ others
   one-cut = Unambiguous.cut-unique
 
-  -- Every header of a partition has a parse.
-  pub has-parse : {rows : List Row} → Partition s rows → {row : Row} → List·Memᴰ row rows → RowHeader s row
-  has-parse = Unambiguous.row-header
+  -- Every header of a cut has a parse.
+  pub has-parse : {blocks : List Block} → Cut s blocks → {b : Block} → List·Memᴰ b blocks → BlockHeader s b
+  has-parse = Unambiguous.cut-header
 
   -- ---- Sound and complete
 
@@ -89,7 +132,7 @@ module _ (s : List ℕ) where
   -- ---- For later proofs
 
   -- The blocks before an offset do not depend on what follows it.
-  pub blocks-before : (t : List ℕ) (n : ℕ) → take n s ≡ take n t → {r : FileRules} {rows : List Row} {at : ℕ} → at ≤ n
+  pub blocks-before : (t : List ℕ) (n : ℕ) → take n s ≡ take n t → {r : Rules} {rows : List Row} {at : ℕ} → at ≤ n
       → Passed s r rows at → Passed t r rows at
   blocks-before t n = Prefix.passed-local n s t
 
@@ -97,5 +140,5 @@ module _ (s : List ℕ) where
   pub distinct-keys : {h : Header} {ts : List Statement} → Parse s h ts → Distinct (map (key (bodyOf s h)) ts)
   distinct-keys p = p .distinct
 
-  pub distinct-identities : {rows : List Row} → Partition s rows → DistinctIdentities rows
+  pub distinct-identities : {rows : List Row} (c : Partition s rows) → c .rules .kind ≡ kind-2 → DistinctIdentities rows
   distinct-identities c = c .identities

@@ -8,34 +8,39 @@ use Rattle.scan.specs.Chain.{Chain}
 use Rattle.scan.proofs.Chains.{chain-kept, chain-length}
 use Rattle.header.proofs.Prefix.{header-local, body-local, parse-local}
 use Rattle.header.proofs.Unambiguous.{header-unique}
+use Rattle.header.specs.Entry.{Entry}
 use Rattle.header.specs.declared.Header.{Header}
 use Rattle.header.specs.declared.Statement.{Statement}
 use Rattle.blocks.specs.Cases.{Passed}
-use Rattle.blocks.specs.Grammar.{HasHeader, IsBlock, FirstHeader}
-use Rattle.blocks.specs.declared.FileRules.{FileRules}
+use Rattle.blocks.specs.Grammar.{Rules, HasHeader, IsBlock, FirstHeader}
 use Rattle.blocks.specs.declared.Row.{Row}
 use Rattle.blocks.proofs.BlockLaws.{block-inside}
 
 module _ (n : ℕ) (s t : List ℕ) (agree : take n s ≡ take n t) where
-  has-local : {at : ℕ} {h : Header} {ts : List Statement} → at + h .length ≤ n → HasHeader s at h ts → HasHeader t at h ts
-  has-local l x = record { header = header-local n s t agree l (x .header); parse = parse-local n s t agree l (x .header) (x .parse) }
+  has-local : {at : ℕ} {h : Header} {ts : List Statement} {es : List Entry} → at + h .length ≤ n → HasHeader s at h ts es → HasHeader t at h ts es
+  has-local l x = record {
+    header = header-local n s t agree l (x .header);
+    parse = parse-local n s t agree l (x .header) (x .parse);
+    says = rw (body-local n s t agree l (x .header)) at (x .says);
+  }
 
-  pub block-local : {r : FileRules} {at next : ℕ} {row : Row} → next ≤ n → IsBlock s r at row next → IsBlock t r at row next
+  pub block-local : {r : Rules} {at next : ℕ} {row : Row} → next ≤ n → IsBlock s r at row next → IsBlock t r at row next
   block-local {at = at} l x =
       let inside : at + x .header .length ≤ n = omega (arith, x .ends, x .length-is) in
       record {
         header = x .header;
         statements = x .statements;
+        entries = x .entries;
         stands = has-local inside (x .stands);
         starts = x .starts;
         length-is = x .length-is;
-        rules = rw (body-local n s t agree inside (x .stands .header)) at (x .rules);
+        rules = x .rules;
         ends = x .ends;
         inside = omega (arith, x .inside, length-take n s, length-take n t, ap length agree);
       }
 
   -- The first header of the file is that of its first block.
-  first-local : {r : FileRules} (rows : List Row) (at : ℕ) → at ≤ n → 1 ≤ length rows → Chain (IsBlock s r) (λ end. end ≡ at) 0 rows
+  first-local : {r : Rules} (rows : List Row) (at : ℕ) → at ≤ n → 1 ≤ length rows → Chain (IsBlock s r) (λ end. end ≡ at) 0 rows
       → FirstHeader s r → FirstHeader t r
   first-local [] at l some c f = absurd (omega arith)
   first-local {r} (x ∷ xs) at l some c f =
@@ -46,11 +51,12 @@ module _ (n : ℕ) (s t : List ℕ) (agree : take n s ≡ take n t) where
       record {
         header = f .header;
         statements = f .statements;
+        entries = f .entries;
         stands = has-local inside (f .stands);
-        declares = rw (body-local n s t agree inside (f .stands .header)) at (f .declares);
+        declares = f .declares;
       }
 
-  pub passed-local : {r : FileRules} {rows : List Row} {at : ℕ} → at ≤ n → Passed s r rows at → Passed t r rows at
+  pub passed-local : {r : Rules} {rows : List Row} {at : ℕ} → at ≤ n → Passed s r rows at → Passed t r rows at
   passed-local {r} {rows} {at} l p = record {
     first-header = first-local rows at l (p .not-empty) (p .blocks) (p .first-header);
     blocks = chain-kept (IsBlock s r) (IsBlock t r) (λ k x m b. block-inside b .0) at (λ k x m u b. block-local (omega arith) b) 0 rows (p .blocks);

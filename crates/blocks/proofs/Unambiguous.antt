@@ -1,25 +1,16 @@
 -- A file has one partition at most; each header of a partition has a parse, and each row lies inside the file.
-use mathlib.Core.Path.{_≡_, sym, ap, subst, _∙_}
-use mathlib.Core.List.{List, map, List·Memᴰ}
+use mathlib.Core.Path.{_≡_, refl, sym, ap, subst, _∙_}
+use mathlib.Core.Logic.{⊎-elim}
+use mathlib.Core.List.{List, [], _∷_, map, List·Memᴰ, List·Memᴰ·head, List·Memᴰ·tail, List·Memᴰ·cases-cons, List·Memᴰ·not-nil}
 use Prim.Native.Nat.{ℕ, _+_, _≤_}
 use native.Mathlib.Omega.{arith}
 use lib.ListN.{length}
 use Rattle.scan.specs.Outcome.{ok}
 use Rattle.scan.proofs.Chains.{chain-member}
-use Rattle.header.specs.Grammar.{IsHeader, Parse}
-use Rattle.header.specs.declared.Header.{Header}
-use Rattle.header.specs.declared.Statement.{Statement}
-use Rattle.blocks.specs.Grammar.{IsBlock, Partition, Block, Cut, blockOf}
+use Rattle.header.specs.Grammar.{IsHeader}
+use Rattle.blocks.specs.Grammar.{IsBlock, Partition, Block, Cut, BlockHeader, blockOf}
 use Rattle.blocks.specs.declared.Row.{Row}
 use Rattle.blocks.proofs.Complete.{opened-complete}
-
--- The header of a row.
-pub record RowHeader (s : List ℕ) (row : Row) : Type 0 where
-  pub header : Header
-  pub statements : List Statement
-  pub stands : IsHeader s (row .start) header
-  pub length-is : row .header ≡ header .length
-  pub parse : Parse s header statements
 
 module _ {s : List ℕ} where
   -- ---- One partition
@@ -36,7 +27,7 @@ module _ {s : List ℕ} where
     block-of : (at : ℕ) × (next : ℕ) × IsBlock s (c .rules) at row next
     block-of = chain-member (IsBlock s (c .rules)) (λ at. at ≡ length s) 0 rows (c .blocks) m
 
-    pub row-header : RowHeader s row
+    pub row-header : BlockHeader s (blockOf row)
     row-header =
         let b = block-of .2 in
         record {
@@ -47,5 +38,16 @@ module _ {s : List ℕ} where
           parse = b .stands .parse;
         }
 
+  -- Each block of a cut has a header with a parse.
+  pub cut-header : {blocks : List Block} → Cut s blocks → {b : Block} → List·Memᴰ b blocks → BlockHeader s b
+  cut-header c {b} m = go (c .rows) (λ row k. row-header (c .partition) k) (rw (c .are) at m)
+    where
+      go : (rows : List Row) → ((row : Row) → List·Memᴰ row rows → BlockHeader s (blockOf row)) → List·Memᴰ b (map blockOf rows) → BlockHeader s b
+      go [] all k = absurd (List·Memᴰ·not-nil k)
+      go (row ∷ rows) all k =
+          ⊎-elim (λ e. subst (BlockHeader s) (sym e) (all row (List·Memᴰ·head refl)))
+          (λ t. go rows (λ x l. all x (List·Memᴰ·tail l)) t) (List·Memᴰ·cases-cons k)
+
+  module _ {rows : List Row} (c : Partition s rows) {row : Row} (m : List·Memᴰ row rows) where
     pub row-inside : row .start + row .header + row .size ≤ length s
-    row-inside = let b = block-of .2 in omega (arith, b .starts, b .ends, b .inside)
+    row-inside = let b = block-of c m .2 in omega (arith, b .starts, b .ends, b .inside)

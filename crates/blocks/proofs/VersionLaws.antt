@@ -1,8 +1,8 @@
 -- `isVersion` decides whether a value is a version.
 use mathlib.Core.Path.{_≡_, refl, sym, _∙_}
-use mathlib.Core.Bool.{Bool, true, false, not, _&&_, false≢true}
+use mathlib.Core.Bool.{true, not, _&&_}
 use mathlib.Core.List.{List, [], _∷_, _++_, List·Memᴰ·head, List·Memᴰ·tail}
-use Prim.Native.Nat.{ℕ, suc, _+_, _-_, _<_}
+use Prim.Native.Nat.{ℕ, suc, _+_, _-_, _≤_, _<_}
 use native.Mathlib.Omega.{arith}
 use lib.Dec.{eqb}
 use lib.ListN.{length, take, drop, length-append, take-append-drop, drop-of-length-le}
@@ -10,23 +10,19 @@ use lib.Seq.{drop-cons, take-append-seam, getD-append-seam, getD-append-add}
 use Rattle.scan.specs.Byte.{byte}
 use Rattle.scan.specs.Search.{is}
 use Rattle.scan.proofs.Cases.{byte-inside}
-use Rattle.scan.proofs.Decides.{Decides, holds, fails, decided, passes, decides-and, decides-by, eqb-decides}
+use Rattle.scan.proofs.Decides.{Decides, decided, passes, decides-and, decides-by, eqb-decides, leb-decides}
 use Rattle.text.specs.Number.{digit}
 use Rattle.text.specs.Text.{every}
-use Rattle.text.proofs.Numbers.{digit-range}
 use Rattle.text.proofs.Everys.{Each, Lacks, every-decides, lacks-decides}
 use Rattle.blocks.specs.Reading.{isVersion}
 use Rattle.blocks.specs.Values.{IsVersion}
 
 abbrev Digit : ℕ → Type 0
-Digit b = digit b ≡ true
+Digit b = (48 ≤ b) × (b ≤ 57)
 
 digit-decides : (b : ℕ) → Decides (Digit b) (digit b)
-digit-decides b = go (digit b)
-  where
-    go : (t : Bool) → Decides (t ≡ true) t
-    go true = holds refl
-    go false = fails false≢true
+unfolding digit
+digit-decides b = decides-and (leb-decides 48 b) (leb-decides b 57)
 
 -- What the tests of `isVersion` say: of the digits in front, the point and the two digits after it.
 abbrev Parts : List ℕ → ℕ → ℕ → ℕ → Type 0
@@ -70,12 +66,13 @@ module _ (v : List ℕ) where
         is = sym (take-append-drop front v) ∙ rw (last-three inside, h .0 .0 .1);
         digits =
             decided (every-decides Digit digit-decides (byte v (front + 1) ∷ byte v (front + 2) ∷ take front v))
-            (rw (h .0 .1, h .1) (passes (every-decides Digit digit-decides (take front v)) (h .0 .0 .0 .0)));
+            (rw (passes (digit-decides _) (h .0 .1), passes (digit-decides _) (h .1))
+            (passes (every-decides Digit digit-decides (take front v)) (h .0 .0 .0 .0)));
         not-zero = h .0 .0 .0 .1;
       }
     where
       inside : front + 2 < length v
-      inside = byte-inside v (front + 2) (byte v (front + 2)) refl (omega (arith, digit-range (byte v (front + 2)) (h .1)))
+      inside = byte-inside v (front + 2) (byte v (front + 2)) refl (omega (arith, h .1))
 
   complete : IsVersion v → Parts (take front v) (byte v front) (byte v (front + 1)) (byte v (front + 2))
   complete h =

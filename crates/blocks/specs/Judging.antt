@@ -10,10 +10,12 @@ use lib.ListN.{length}
 use Rattle.scan.specs.Byte.{same}
 use Rattle.scan.specs.Outcome.{isSome, isNone, Outcome, ok, require, present, _>>=_, _>>_}
 use Rattle.text.specs.Number.{wholeNumber}
-use Rattle.header.specs.Entry.{Entry, bodyOf, entries, valueIn}
+use Rattle.header.specs.Entries.{entries, valueIn}
+use Rattle.header.specs.Entry.{Entry, bodyOf}
 use Rattle.header.specs.Frame.{headerAt}
 use Rattle.header.specs.Statements.{statementsOf}
-use Rattle.blocks.specs.Keys.{VersionKey, DataBlocksKey, BlockIDKey, BoundaryKey, HeaderSizeKey, FileNameKey, first, second, isEdfKey, counting, countingIn, sizeValue}
+use Rattle.blocks.specs.Counting.{first, second, isEdfKey, counting, countingIn, sizeValue}
+use Rattle.blocks.specs.Keys.{VersionKey, DataBlocksKey, BlockIDKey, BoundaryKey, HeaderSizeKey, FileNameKey}
 use Rattle.blocks.specs.Limits.{defaultBoundary}
 use Rattle.blocks.specs.Reading.{numberOr, isVersion, askedFor, identityOf}
 use Rattle.blocks.specs.declared.Accepted.{Accepted}

@@ -1,10 +1,12 @@
 pub mod Answers
 pub mod Cases
+pub mod Counting
 pub mod Grammar
 pub mod IdentityText
 pub mod Keys
 pub mod Judging
 pub mod Limits
 pub mod Opening
+pub mod Places
 pub mod Reading
 pub mod Values

@@ -1,24 +1,34 @@
 -- What the values of the keys for blocks mean, as relations between a value's bytes and what they stand for.
 use mathlib.Core.Path.{_≡_}
 use mathlib.Core.Logic.{_≢_}
-use mathlib.Core.Bool.{true}
 use mathlib.Core.List.{List, [], _∷_, _++_, List·Memᴰ}
-use mathlib.Core.Option.{Option, none, some}
 use Prim.Native.Nat.{ℕ, _≤_}
 use lib.IntN.{ℤ, pos}
 use Rattle.scan.specs.Byte.{ascii}
-use Rattle.text.specs.Number.{digit, wholeNumber}
+use Rattle.lexical.specs.Whole.{IsWhole}
 
--- A whole number from `least`, or `default` where the key is absent: Size and EDF_BinarySize ("absent: 0", "a whole number
--- from 0") and EDF_BlockBoundary ("a whole number above 0 .. else 512").
-pub data NumberOr (default least : ℕ) : Option (List ℕ) → ℕ → Type 0 where
-  absent : NumberOr default least none default
-  given : {v : List ℕ} {n : ℕ} → wholeNumber v ≡ some (pos n) → least ≤ n → NumberOr default least (some v) n
+-- ---- Keys that may be absent. `Has v`: the key is there, with the value v.
 
--- "EDF_HeaderSize, if it counts, is a whole number (else 9) and the header's length."
-pub data HeaderSize : Option (List ℕ) → ℕ → Type 0 where
-  absent : {n : ℕ} → HeaderSize none n
-  given : {v : List ℕ} {n : ℕ} → wholeNumber v ≡ some (pos n) → HeaderSize (some v) n
+module _ (Has : List ℕ → Type 0) where
+  abbrev pub Absent : Type 0
+  Absent = (v : List ℕ) → Has v → ⊥
+
+  -- A whole number from `least`, or `default` where the key is absent: Size and EDF_BinarySize ("absent: 0", "a whole number
+  -- from 0") and EDF_BlockBoundary ("a whole number above 0 .. else 512").
+  pub data NumberOr (default least : ℕ) : ℕ → Type 0 where
+    absent : Absent → NumberOr default least default
+    given : {v : List ℕ} {n : ℕ} → Has v → IsWhole v (pos n) → least ≤ n → NumberOr default least n
+
+  -- "EDF_HeaderSize, if it counts, is a whole number (else 9) and the header's length."
+  pub data WholeOrAbsent : Type 0 where
+    absent : Absent → WholeOrAbsent
+    given : {v : List ℕ} {z : ℤ} → Has v → IsWhole v z → WholeOrAbsent
+
+  pub data LengthOrAbsent (header : ℕ) : Type 0 where
+    absent : Absent → LengthOrAbsent header
+    given : {v : List ℕ} → Has v → IsWhole v (pos header) → LengthOrAbsent header
+
+-- ---- The version, the count and the identity
 
 -- "The version is digits, not all 0, a point, two digits."
 pub record IsVersion (v : List ℕ) : Type 0 where
@@ -26,13 +36,13 @@ pub record IsVersion (v : List ℕ) : Type 0 where
   pub tens : ℕ
   pub units : ℕ
   pub is : v ≡ major ++ (46 ∷ tens ∷ units ∷ [])
-  pub digits : (b : ℕ) → List·Memᴰ b (tens ∷ units ∷ major) → digit b ≡ true
+  pub digits : (b : ℕ) → List·Memᴰ b (tens ∷ units ∷ major) → (48 ≤ b) × (b ≤ 57)
   pub not-zero : (b : ℕ) × List·Memᴰ b major × (b ≢ 48)
 
 -- "EDF_DataBlocks is a whole number from 1, equal to the blocks beside the general one, or `Undetermined` where there is just
 -- one": the value asks for n data blocks.
 pub data AsksFor : List ℕ → ℕ → Type 0 where
-  number : {v : List ℕ} {n : ℕ} → wholeNumber v ≡ some (pos n) → 1 ≤ n → AsksFor v n
+  number : {v : List ℕ} {n : ℕ} → IsWhole v (pos n) → 1 ≤ n → AsksFor v n
   undetermined : AsksFor (ascii "Undetermined") 1
 
 -- "instance `Psd` or `Error`", 1 and 2 in a row.
@@ -43,7 +53,7 @@ pub data Instance : List ℕ → ℕ → Type 0 where
 -- "memory a whole number from 2, left out for 1", with the point before it.
 pub data Memory : List ℕ → ℤ → Type 0 where
   omitted : Memory [] (pos 1)
-  given : {m : List ℕ} {n : ℕ} → wholeNumber m ≡ some (pos n) → 2 ≤ n → Memory (46 ∷ m) (pos n)
+  given : {m : List ℕ} {n : ℕ} → IsWhole m (pos n) → 2 ≤ n → Memory (46 ∷ m) (pos n)
 
 -- "Identity .. `sequence.Image.instance` or with `.memory`; sequence a whole number".
 pub record IsIdentity (v : List ℕ) (sequence : ℤ) (instance : ℕ) (memory : ℤ) : Type 0 where
@@ -51,6 +61,6 @@ pub record IsIdentity (v : List ℕ) (sequence : ℤ) (instance : ℕ) (memory :
   pub word : List ℕ
   pub rest : List ℕ
   pub is : v ≡ number ++ (ascii ".Image." ++ (word ++ rest))
-  pub sequence-is : wholeNumber number ≡ some sequence
+  pub sequence-is : IsWhole number sequence
   pub instance-is : Instance word instance
   pub memory-is : Memory rest memory

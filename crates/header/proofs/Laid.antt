@@ -16,10 +16,12 @@ use Rattle.text.specs.Whitespace.{whitespace}
 use Rattle.text.proofs.Everys.{Each}
 use Rattle.text.proofs.Padding.{Blank}
 use Rattle.text.proofs.Parts.{From, each-byte, each-head, each-tail, each-cons, each-append, part-byte, mark-byte, part-is, rest-is}
-use Rattle.header.specs.Entry.{Entry, bodyOf, key, rawValue, trimmedLength, value, span, entries}
+use Rattle.header.specs.Entries.{value, span, entries}
+use Rattle.header.specs.Entry.{Entry, bodyOf, key, rawValue}
 use Rattle.header.specs.Grammar.{BodyByte, StatementFrom, OnlyWhitespace, Short, Distinct, Parse}
 use Rattle.header.specs.declared.Header.{Header}
 use Rattle.header.specs.declared.Statement.{Statement}
+use Rattle.header.proofs.Rules.{is-short}
 
 -- ---- The layout
 
@@ -130,9 +132,8 @@ module _ {s : List ℕ} {at : ℕ} (p : Piece) (rest : List ℕ) (from : From s 
         ends = refl;
       }
 
-  is-short : MayLay p → Short s (placed at p)
-  unfolding trimmedLength trimmed
-  is-short h = record { key-short = rw key-is (h .key-short); value-short = rw raw-is (h .value-short) }
+  stands-short : MayLay p → Short s (placed at p)
+  stands-short h = is-short s (rw key-is (h .key-short)) (rw raw-is (h .value-short))
 
   says : record { key = key s (placed at p); value = value s (placed at p); span = span s (placed at p) } ≡ entryAt at p
   unfolding value span
@@ -158,7 +159,7 @@ module _ (s tail : List ℕ) where
   unfolding laid statementsAt
   laid-short at [] from h t m = absurd (List·Memᴰ·not-nil m)
   laid-short at (p ∷ ps) from h t m =
-      ⊎-elim (λ e. rw e (is-short p (laid ps tail) from (each-head h)))
+      ⊎-elim (λ e. rw e (stands-short p (laid ps tail) from (each-head h)))
       (laid-short (suc (placed at p .end)) ps (next-from p (laid ps tail) from) (each-tail h) t) (List·Memᴰ·cases-cons m)
 
   pub laid-keys : (at : ℕ) (ps : List Piece) → From s at (laid ps tail) → map (key s) (statementsAt at ps) ≡ map (λ (p : Piece). keyOf (p .key)) ps

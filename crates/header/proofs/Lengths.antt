@@ -10,7 +10,8 @@ use Rattle.scan.specs.Byte.{between}
 use Rattle.scan.proofs.Parts.{lent-between}
 use Rattle.text.specs.Key.{keyOf}
 use Rattle.text.specs.Value.{trimmed}
-use Rattle.header.specs.Entry.{key, trimmedLength}
+use Rattle.header.specs.Entries.{trimmedLength}
+use Rattle.header.specs.Entry.{key}
 use Rattle.header.specs.Statements.{isShort}
 use Rattle.header.specs.declared.Statement.{Statement}
 

@@ -14,6 +14,7 @@ pub mod OneStatement
 pub mod Prefix
 pub mod RepeatLaws
 pub mod Rules
+pub mod SayLaws
 pub mod Spans
 pub mod StatementLaws
 pub mod StatementSteps

@@ -12,7 +12,8 @@ use Rattle.scan.specs.Byte.{bytesAt, same}
 use Rattle.scan.specs.declared.Span.{Span}
 use Rattle.scan.proofs.Cases.{by-test, none-some}
 use Rattle.text.specs.Value.{valueSpan, valueOf}
-use Rattle.header.specs.Entry.{key, rawValue, value, span, entries, lookup}
+use Rattle.header.specs.Entries.{value, span, entries, lookup}
+use Rattle.header.specs.Entry.{key, rawValue}
 use Rattle.header.specs.Grammar.{IsStatement}
 use Rattle.header.specs.Lookup.{firstStatement, entryOf}
 use Rattle.header.specs.Statements.{statementAt, followed, leadingWithin, leadingStatements}

@@ -7,7 +7,8 @@ use native.Mathlib.Omega.{arith}
 use lib.ListN.{length, length-take}
 use lib.Seq.{length-slice}
 use Rattle.text.proofs.ValueSpans.{value-fits}
-use Rattle.header.specs.Entry.{bodyOf, rawValue, span}
+use Rattle.header.specs.Entries.{span}
+use Rattle.header.specs.Entry.{bodyOf, rawValue}
 use Rattle.header.specs.Grammar.{IsStatement, Parse}
 use Rattle.header.specs.declared.Header.{Header}
 use Rattle.header.specs.declared.Statement.{Statement}

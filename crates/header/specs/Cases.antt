@@ -11,7 +11,6 @@ use Rattle.scan.specs.Chain.{Chain}
 use Rattle.scan.specs.Outcome.{errorAt}
 use Rattle.scan.specs.declared.Error.{Error}
 use Rattle.text.specs.Whitespace.{whitespace}
-use Rattle.header.specs.Limits.{headerLimit}
 use Rattle.header.specs.Entry.{bodyOf, key}
 use Rattle.header.specs.Grammar.{StartPattern, EndPattern, StatementFrom, OnlyWhitespace, Short, Distinct}
 use Rattle.header.specs.declared.Header.{Header}
@@ -31,14 +30,14 @@ EndsBody b = (b ≡ 0) ⊎ ((127 < b) ⊎ ((b ≡ 123) ⊎ (b ≡ 125)))
 pub record BodyEnd (s : List ℕ) (start left c : ℕ) : Type 0 where
   pub after : left < c
   pub inside : c < length s
-  pub within : c < start + headerLimit
+  pub within : c < start + 65536
   pub ends : EndsBody (byte s c)
   pub first : (k : ℕ) → left < k → k < c → EndsBody (byte s k) → ⊥
 
 -- The end pattern "in that space" whose `}` is at c, up to, not including, `next`.
 pub record Closes (s : List ℕ) (start c next : ℕ) : Type 0 where
   pub pattern : EndPattern s c next
-  pub within : next ≤ start + headerLimit
+  pub within : next ≤ start + 65536
 
 -- 4, at position c: it "is not `}`".
 pub record BadByte (s : List ℕ) (start c : ℕ) : Type 0 where

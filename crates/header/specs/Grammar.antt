@@ -9,8 +9,8 @@ use lib.ListN.{length}
 use Rattle.scan.specs.Byte.{byte}
 use Rattle.scan.specs.Chain.{Chain}
 use Rattle.text.specs.Whitespace.{whitespace}
-use Rattle.header.specs.Limits.{headerLimit}
-use Rattle.header.specs.Entry.{bodyOf, key, trimmedLength}
+use Rattle.lexical.specs.Value.{Trimmed, IsValue}
+use Rattle.header.specs.Entry.{Entry, bodyOf, key, rawValue}
 use Rattle.header.specs.declared.Header.{Header}
 use Rattle.header.specs.declared.Statement.{Statement}
 
@@ -40,7 +40,7 @@ pub record IsHeader (s : List ℕ) (start : ℕ) (h : Header) : Type 0 where
   pub order : h .left < h .right
   pub body : (k : ℕ) → h .left < k → k < h .right → BodyByte (byte s k)
   pub closing : EndPattern s (h .right) (start + h .length)
-  pub short : h .length ≤ headerLimit
+  pub short : h .length ≤ 65536
 
 -- ---- The statements
 
@@ -65,10 +65,13 @@ pub record StatementFrom (s : List ℕ) (at : ℕ) (t : Statement) (next : ℕ) 
 abbrev pub OnlyWhitespace : List ℕ → ℕ → Type 0
 OnlyWhitespace s at = (k : ℕ) → at ≤ k → k < length s → whitespace (byte s k) ≡ true
 
--- "1 to 64 characters remain", "at most 2,048 bytes remain".
+-- "1 to 64 characters remain", "at most 2,048 bytes remain", quotes included.
 pub record Short (s : List ℕ) (t : Statement) : Type 0 where
   pub key-short : length (key s t) ≤ 64
-  pub value-short : trimmedLength s t ≤ 2048
+  pub offset : ℕ
+  pub trimmed : List ℕ
+  pub trim : Trimmed (rawValue s t) offset trimmed
+  pub value-short : length trimmed ≤ 2048
 
 -- No list of bytes stands twice in a list.
 abbrev pub Distinct : List (List ℕ) → Type 0
@@ -82,3 +85,17 @@ pub record Parse (s : List ℕ) (h : Header) (ts : List Statement) : Type 0 wher
   pub shape : Chain (StatementFrom (bodyOf s h)) (OnlyWhitespace (bodyOf s h)) (suc (h .left)) ts
   pub short : (t : Statement) → List·Memᴰ t ts → Short (bodyOf s h) t
   pub distinct : Distinct (map (key (bodyOf s h)) ts)
+
+-- ---- What the statements say
+
+-- A statement says its key, stripped and folded, and its value, trimmed and unquoted, with the span where that stands in the file.
+pub record Says (s : List ℕ) (t : Statement) (e : Entry) : Type 0 where
+  pub key-is : e .key ≡ key s t
+  pub offset : ℕ
+  pub value-is : IsValue (rawValue s t) offset (e .value)
+  pub span-is : e .span ≡ record { offset = suc (t .equals) + offset; length = length (e .value) }
+
+-- The statements of a header say the entries, in order.
+pub data SayAll (s : List ℕ) : List Statement → List Entry → Type 0 where
+  nothing : SayAll s [] []
+  more : {t : Statement} {ts : List Statement} {e : Entry} {es : List Entry} → Says s t e → SayAll s ts es → SayAll s (t ∷ ts) (e ∷ es)

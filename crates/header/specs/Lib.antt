@@ -1,6 +1,7 @@
 pub mod Answers
 pub mod Cases
 pub mod Checks
+pub mod Entries
 pub mod Entry
 pub mod Frame
 pub mod Grammar

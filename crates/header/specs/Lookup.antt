@@ -4,7 +4,8 @@ use mathlib.Core.List.{List, [], _∷_}
 use mathlib.Core.Option.{Option, none, some}
 use Prim.Native.Nat.{ℕ}
 use Rattle.scan.specs.Byte.{same}
-use Rattle.header.specs.Entry.{Entry, key, value, span}
+use Rattle.header.specs.Entries.{value, span}
+use Rattle.header.specs.Entry.{Entry, key}
 use Rattle.header.specs.declared.Statement.{Statement}
 
 -- The first statement whose key is k.

@@ -12,7 +12,8 @@ use Rattle.scan.specs.declared.Found.{Found}
 use Rattle.scan.specs.declared.Found.the-variants.{At, Nothing}
 use Rattle.text.specs.Text.{every}
 use Rattle.text.specs.Whitespace.{visible}
-use Rattle.header.specs.Entry.{bodyOf, key, trimmedLength}
+use Rattle.header.specs.Entries.{trimmedLength}
+use Rattle.header.specs.Entry.{bodyOf, key}
 use Rattle.header.specs.declared.Header.{Header}
 use Rattle.header.specs.declared.Next.{Next}
 use Rattle.header.specs.declared.Next.the-variants.{One, End, Malformed}

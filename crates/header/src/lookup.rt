@@ -10,7 +10,7 @@ ghost use Prim.Native.Nat.{_≤_, _<_};
 ghost use lib.ListN.{length};
 ghost use Rattle.text.specs.Key.{keyOf};
 ghost use Rattle.header.specs.Answers.{soughtOption};
-ghost use Rattle.header.specs.Entry.{value, span};
+ghost use Rattle.header.specs.Entries.{value, span};
 ghost use Rattle.header.specs.Lookup.{firstStatement};
 ghost use Rattle.header.specs.Statements.{leadingStatements};
 

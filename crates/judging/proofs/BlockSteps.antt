@@ -13,12 +13,14 @@ use Rattle.scan.specs.Outcome.{Outcome, ok, failed, refused, isNone}
 use Rattle.scan.specs.declared.Error.{Error}
 use Rattle.scan.proofs.Cases.{by-order}
 use Rattle.header.specs.Checks.{statementsChecked}
-use Rattle.header.specs.Entry.{Entry, valueIn}
+use Rattle.header.specs.Entries.{valueIn}
+use Rattle.header.specs.Entry.{Entry}
 use Rattle.header.specs.Frame.{headerAt}
 use Rattle.header.specs.declared.Header.{Header}
 use Rattle.header.proofs.Checks.{Checks, checked-says}
 use Rattle.blocks.specs.Judging.{rulesOf, roleOf, lengthAllowed, rowWith, judged, blockAt}
-use Rattle.blocks.specs.Keys.{FileNameKey, HeaderSizeKey, countingIn, sizeValue}
+use Rattle.blocks.specs.Counting.{countingIn, sizeValue}
+use Rattle.blocks.specs.Keys.{FileNameKey, HeaderSizeKey}
 use Rattle.blocks.specs.Reading.{numberOr}
 use Rattle.blocks.specs.declared.Accepted.{Accepted}
 use Rattle.blocks.specs.declared.FileRules.{FileRules}

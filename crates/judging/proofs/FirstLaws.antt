@@ -9,9 +9,11 @@ use borrow.Author.Tests.{eq-eqb, ne-eqb}
 use Rattle.scan.specs.Byte.{same}
 use Rattle.scan.proofs.Cases.{by-test}
 use Rattle.text.specs.Key.{keyOf}
-use Rattle.header.specs.Entry.{Entry, valueIn}
+use Rattle.header.specs.Entries.{valueIn}
+use Rattle.header.specs.Entry.{Entry}
 use Rattle.blocks.specs.Judging.{rulesWith, generalBy, generalRules, rulesOf, unnamed, roleOf}
-use Rattle.blocks.specs.Keys.{VersionKey, DataBlocksKey, BlockIDKey, BoundaryKey, first, isEdfKey, counting}
+use Rattle.blocks.specs.Counting.{first, isEdfKey, counting}
+use Rattle.blocks.specs.Keys.{VersionKey, DataBlocksKey, BlockIDKey, BoundaryKey}
 use Rattle.blocks.specs.Limits.{defaultBoundary}
 use Rattle.blocks.specs.Reading.{isVersion, askedFor, numberOr, identityOf}
 use Rattle.blocks.specs.declared.FileRules.{FileRules}

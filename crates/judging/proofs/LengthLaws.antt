@@ -6,9 +6,11 @@ use Prim.Native.Nat.{ℕ, _%_}
 use native.Mathlib.Nat.{mod-zero}
 use lib.Dec.{eqb}
 use Rattle.scan.proofs.Cases.{by-test}
-use Rattle.header.specs.Entry.{Entry, valueIn}
+use Rattle.header.specs.Entries.{valueIn}
+use Rattle.header.specs.Entry.{Entry}
 use Rattle.blocks.specs.Judging.{isLengthOrAbsent, lengthAllowed}
-use Rattle.blocks.specs.Keys.{HeaderSizeKey, countingIn}
+use Rattle.blocks.specs.Counting.{countingIn}
+use Rattle.blocks.specs.Keys.{HeaderSizeKey}
 use Rattle.blocks.specs.declared.FileRules.{FileRules}
 
 -- ---- The boundary

@@ -5,11 +5,13 @@ use Prim.Native.Nat.{ℕ, _+_}
 use lib.Dec.{leb}
 use lib.ListN.{length}
 use Rattle.scan.specs.Outcome.{Outcome, ok, isNone, require, present, _>>=_, _>>_}
-use Rattle.header.specs.Entry.{Entry, bodyOf, entries, valueIn}
+use Rattle.header.specs.Entries.{entries, valueIn}
+use Rattle.header.specs.Entry.{Entry, bodyOf}
 use Rattle.header.specs.Statements.{statementsOf}
 use Rattle.header.specs.declared.Header.{Header}
 use Rattle.blocks.specs.Judging.{isWholeOrAbsent, lengthAllowed, rowWith, rulesFor, judged}
-use Rattle.blocks.specs.Keys.{FileNameKey, HeaderSizeKey, countingIn, sizeValue}
+use Rattle.blocks.specs.Counting.{countingIn, sizeValue}
+use Rattle.blocks.specs.Keys.{FileNameKey, HeaderSizeKey}
 use Rattle.blocks.specs.Reading.{numberOr}
 use Rattle.blocks.specs.declared.Accepted.{Accepted}
 use Rattle.blocks.specs.declared.FileRules.{FileRules}

@@ -5,7 +5,8 @@ use mathlib.Core.Option.{Option, none, Option·map}
 use Prim.Native.Nat.{ℕ}
 use Rattle.scan.specs.Byte.{same}
 use Rattle.header.specs.Entry.{Entry}
-use Rattle.blocks.specs.Keys.{DataBlocksKey, BlockIDKey, first}
+use Rattle.blocks.specs.Counting.{first}
+use Rattle.blocks.specs.Keys.{DataBlocksKey, BlockIDKey}
 use Rattle.blocks.specs.Reading.{askedFor, identityOf}
 use Rattle.blocks.specs.declared.Identity.{Identity}
 use Rattle.blocks.specs.declared.Role.{Role}

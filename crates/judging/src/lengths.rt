@@ -9,8 +9,9 @@ ghost use mathlib.Core.Path.{_≡_};
 ghost use Prim.Native.Nat.{_%_};
 ghost use lib.Dec.{eqb};
 ghost use Rattle.scan.specs.Outcome.{isNone};
-ghost use Rattle.header.specs.Entry.{valueIn};
-ghost use Rattle.blocks.specs.Keys.{FileNameKey, HeaderSizeKey, countingIn};
+ghost use Rattle.header.specs.Entries.{valueIn};
+ghost use Rattle.blocks.specs.Counting.{countingIn};
+ghost use Rattle.blocks.specs.Keys.{FileNameKey, HeaderSizeKey};
 ghost use Rattle.reading.specs.Entries.{entriesFrom};
 ghost use Rattle.reading.specs.Lengths.{SizeSaid};
 

@@ -12,14 +12,15 @@ use Rattle.scan.specs.Byte.{partOf}
 use Rattle.scan.specs.declared.Span.{Span}
 use Rattle.scan.proofs.Cases.{by-option, by-test, none-some}
 use Rattle.text.specs.Key.{keyOf}
-use Rattle.header.specs.Entry.{Entry, bodyOf, span, value, lookup}
+use Rattle.header.specs.Entries.{span, value, lookup}
+use Rattle.header.specs.Entry.{Entry, bodyOf}
 use Rattle.header.specs.Lookup.{firstStatement, entryOf}
 use Rattle.header.specs.Statements.{leadingStatements}
 use Rattle.header.specs.declared.Header.{Header}
 use Rattle.header.specs.declared.Statement.{Statement}
 use Rattle.header.proofs.Leading.{leading-end, end-answer}
 use Rattle.header.proofs.LookupLaws.{lookup-first, first-stands, span-ends, value-at-span, part-of-prefix}
-use Rattle.blocks.specs.Keys.{isEdfKey}
+use Rattle.blocks.specs.Counting.{isEdfKey}
 use Rattle.keyword.specs.Keyword.{lookupIn}
 use Rattle.keyword.specs.Viewing.{headerEntries, viewAt, valueSpan, valueBytes}
 use Rattle.keyword.specs.declared.Block.{Block}

@@ -27,7 +27,7 @@ use Rattle.blocks.specs.declared.Opened.the-variants.{Blocks, Failed}
 use Rattle.blocks.specs.declared.Row.{Row}
 use Rattle.blocks.proofs.Answers.{within-limit}
 use Rattle.blocks.proofs.Sound.{opened-sound}
-use Rattle.blocks.proofs.Unambiguous.{RowHeader, row-header, row-inside}
+use Rattle.blocks.proofs.Unambiguous.{row-header, row-inside}
 use Rattle.opening.specs.Core.{Opens}
 use Rattle.opening.specs.declared.Opening.{Opening}
 use Rattle.keyword.specs.Keyword.{View, entriesAt, generalEntries, viewOf}
@@ -98,7 +98,7 @@ module _ (s : List ℕ) where
     -- Each row of an opened file has one at its start,
     pub row-headed : (k : ℕ) {row : Row} → getElem? rows k ≡ some row → Headed s (row .start)
     row-headed k {row} e =
-        let r : RowHeader s row = row-header (opened-sound s o) (member-at rows k e) in
+        let r = row-header (opened-sound s o) (member-at rows k e) in
         parsed-headed (r .stands) (r .parse)
 
     -- and so has the file.

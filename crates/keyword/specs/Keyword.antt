@@ -12,10 +12,11 @@ use Rattle.scan.specs.declared.Span.{Span}
 use Rattle.text.specs.Key.{keyOf}
 use Rattle.text.specs.Number.{wholeNumber}
 use Rattle.text.specs.Text.{textOf, shortText}
-use Rattle.header.specs.Entry.{Entry, bodyOf, entries, lookup}
+use Rattle.header.specs.Entries.{entries, lookup}
+use Rattle.header.specs.Entry.{Entry, bodyOf}
 use Rattle.header.specs.Frame.{headerAt}
 use Rattle.header.specs.Statements.{statementsOf}
-use Rattle.blocks.specs.Keys.{isEdfKey}
+use Rattle.blocks.specs.Counting.{isEdfKey}
 use Rattle.blocks.specs.Opening.{openedFile}
 use Rattle.blocks.specs.declared.Row.{Row}
 

@@ -7,7 +7,8 @@ use lib.Dec.{eqb}
 use Rattle.scan.specs.Byte.{partOf}
 use Rattle.scan.specs.Outcome.{Outcome, ok, failed, _>>=_}
 use Rattle.scan.specs.declared.Span.{Span}
-use Rattle.header.specs.Entry.{Entry, bodyOf, entries, lookup}
+use Rattle.header.specs.Entries.{entries, lookup}
+use Rattle.header.specs.Entry.{Entry, bodyOf}
 use Rattle.header.specs.Frame.{headerAt}
 use Rattle.header.specs.Statements.{leadingStatements}
 use Rattle.header.specs.declared.Header.{Header}

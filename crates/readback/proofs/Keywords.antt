@@ -23,10 +23,11 @@ use Rattle.text.proofs.Words.{Word, WordByte, wordByte, word, word-append, deci
 use Rattle.header.specs.Grammar.{Distinct}
 use Rattle.header.specs.Statements.{among, areDistinct}
 use Rattle.header.proofs.Rules.{distinct-decides}
-use Rattle.rendering.specs.Render.{dimKeywords, Keyword, line, lines, padding, opening, renderedHeader}
+use Rattle.rendering.specs.Render.{dimKeywords, Keyword, line, lines, opening, renderedHeader}
 use Rattle.text.specs.Text.{textLimit}
 use Rattle.frame.proofs.Allowed.{Within}
 use Rattle.header.proofs.Laid.{ValueByte}
+use Rattle.rendering.proofs.LineLaws.{opening-length}
 use Rattle.rendering.proofs.Padding.{padding-small}
 use Rattle.rendering.proofs.Rendered.{folded, MayStand, MayRender}
 
@@ -100,10 +101,6 @@ lines-length (k ∷ ks) h =
       w .value-short,
       lines-length ks (each-tail h),
     )
-
-opening-length : (ks : List Keyword) → length (opening ks) ≡ 3 + length (lines ks)
-unfolding opening
-opening-length ks = omega arith
 
 few-fit : (ks : List Keyword) → Each Writable ks → length ks ≤ 30 → length (renderedHeader ks) ≤ 65536
 unfolding renderedHeader

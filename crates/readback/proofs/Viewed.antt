@@ -15,11 +15,11 @@ use Rattle.text.specs.Whitespace.{whitespace}
 use Rattle.text.specs.Value.{valueOf}
 use Rattle.text.proofs.Padding.{spaced, quoted-value}
 use Rattle.text.proofs.Words.{decimal-word, word-read}
-use Rattle.header.specs.Entry.{lookup}
+use Rattle.header.specs.Entries.{lookup}
 use Rattle.header.proofs.FrameLaws.{header-complete}
 use Rattle.header.proofs.Laid.{entriesAt}
 use Rattle.header.proofs.StatementLaws.{statements-complete}
-use Rattle.blocks.specs.Keys.{isEdfKey}
+use Rattle.blocks.specs.Counting.{isEdfKey}
 use Rattle.blocks.specs.Opening.{openedFile}
 use Rattle.blocks.specs.declared.Row.{Row}
 use Rattle.blocks.proofs.Answers.{within-limit}

@@ -11,6 +11,7 @@ use lib.ListN.{length, getD, length-append}
 use mir.Syntax.{w64}
 use mir.Val.{SFits}
 use Rattle.scan.specs.Byte.{same}
+use Rattle.scan.proofs.Finds.{Finds, finds-has, finds-no}
 use Rattle.text.specs.Decimal.{decimal}
 use Rattle.text.specs.Fold.{fold}
 use Rattle.text.specs.Key.{strip, keyOf}
@@ -19,14 +20,20 @@ use Rattle.text.specs.Text.{textByte}
 use Rattle.text.specs.Whitespace.{whitespace}
 use Rattle.text.proofs.Decimals.{decimal-back, decimal-length}
 use Rattle.text.proofs.Everys.{Each}
+use Rattle.lexical.proofs.WholeLaws.{whole-sound}
 use Rattle.text.proofs.Words.{decimal-word, word-read}
-use Rattle.header.specs.Entry.{Entry, lookup, valueIn}
+use Rattle.header.specs.Entries.{lookup, valueIn}
+use Rattle.header.specs.Entry.{Entry}
 use Rattle.header.proofs.Laid.{entriesAt}
-use Rattle.blocks.specs.Grammar.{kind-2, data-block, KeepsRules, HasHeader, IsBlock, plainRules, Partition}
+use Rattle.blocks.specs.Grammar.{plainRules, data-first, data-block, KeepsRules, HasHeader, IsBlock, Partition}
 use Rattle.blocks.specs.IdentityText.{identityText}
-use Rattle.blocks.specs.Keys.{BlockIDKey, FileNameKey, HeaderSizeKey, first, isEdfKey, counting, countingIn, sizeValue}
-use Rattle.blocks.specs.Values.{NumberOr, HeaderSize, IsIdentity}
+use Rattle.blocks.specs.Counting.{first, isEdfKey, counting, countingIn, sizeValue}
+use Rattle.blocks.specs.Keys.{BlockIDKey, FileNameKey, HeaderSizeKey}
+use Rattle.blocks.specs.Places.{kind-2, here, HasKey, CountsIn}
+use Rattle.blocks.specs.Values.{NumberOr, LengthOrAbsent, IsIdentity}
 use Rattle.blocks.specs.declared.Row.{Row}
+use Rattle.blocks.proofs.BlockLaws.{keys-distinct}
+use Rattle.blocks.proofs.Coded.{kind-reads, size-reads}
 use Rattle.blocks.proofs.IdentityBack.{identity-back, identity-word, identity-length}
 use Rattle.raster.specs.Types.{orderWords}
 use Rattle.frame.specs.File.{frameDims, frameType, fileData, keywordsOf, fileOf}
@@ -37,7 +44,7 @@ use Rattle.frame.specs.declared.Frame.{Frame}
 use Rattle.frame.proofs.Allowed.{Writes}
 use Rattle.frame.proofs.Codes.{type-coded, order-coded}
 use Rattle.readback.proofs.Keywords.{Values, ShortWord, AreWords, Dims, some-dims, keywordsWith, keywords-render}
-use Rattle.rendering.proofs.Rendered.{MayRender, headerFor, statementsFor, entriesFor, rendered-stands, rendered-entries, rendered-multiple}
+use Rattle.rendering.proofs.Rendered.{MayRender, headerFor, statementsFor, entriesFor, rendered-stands, rendered-multiple}
 
 -- ---- The keys for blocks, by computing
 
@@ -45,14 +52,10 @@ module _ (v : Values) (ds t : List ℕ) where
   abbrev said : List Entry
   said = entriesFor (keywordsWith v ds t)
 
-  first-key : first said .key ≡ BlockIDKey
-  unfolding entriesAt keyOf strip fold whitespace
-  first-key = refl
-
   module _ (w : AreWords v) where
-    first-value : first said .value ≡ v .identity
-    unfolding entriesAt
-    first-value = word-read (v .identity) (w .identity .is-word)
+    first-key : HasKey said 0 BlockIDKey (v .identity)
+    unfolding entriesAt keyOf strip fold whitespace
+    first-key = record { entry = first said; at = here; key-is = refl; value-is = word-read (v .identity) (w .identity .is-word) }
 
     size-value : sizeValue 2 said ≡ some (v .size)
     unfolding entriesAt sizeValue counting isEdfKey lookup same keyOf strip fold whitespace
@@ -78,28 +81,32 @@ module _ (v : Values) (t l : List ℕ) {ds : List ℕ} (d : Dims ds) (w : AreWor
   abbrev header : List ℕ
   header = renderedHeader (keywordsWith v ds t)
 
-  stands : HasHeader (header ++ l) 0 (headerFor (keywordsWith v ds t)) (statementsFor (keywordsWith v ds t))
+  stands : HasHeader (header ++ l) 0 (headerFor (keywordsWith v ds t)) (statementsFor (keywordsWith v ds t)) (entriesFor (keywordsWith v ds t))
   stands = rendered-stands (keywordsWith v ds t) l (keywords-render v t d w text short)
 
-  keeps : KeepsRules (plainRules 2) 0 (entriesFor (keywordsWith v ds t)) (rowWith (length header) (length l) a b c)
+  keeps : KeepsRules (plainRules kind-2) 0 (entriesFor (keywordsWith v ds t)) (rowWith (length header) (length l) a b c)
   keeps =
+      let keys = keys-distinct stands in
+      let counted : (key : List ℕ) → Finds (CountsIn kind-2 (said v ds t) key) (valueIn key (countingIn 2 (said v ds t))) =
+      λ key. kind-reads keys kind-2 key .finds in
       record {
-        role = data-block refl (inl refl) refl (first-key v ds t) (rw (first-value v ds t w) identity);
-        size = rw (size-value v ds t w) (NumberOr.given size (omega arith));
-        no-file-name = no-file-name v ds t;
+        role = data-block refl (inl refl) refl (first-key v ds t w) identity;
+        size = NumberOr.given (finds-has (size-reads keys kind-2 .finds) (size-value v ds t w)) (whole-sound (v .size) size) (omega arith);
+        no-file-name = finds-no (counted FileNameKey) (no-file-name v ds t);
         multiple = rendered-multiple (keywordsWith v ds t);
-        header-size = rw (no-header-size v ds t) HeaderSize.absent;
+        header-size = LengthOrAbsent.absent (finds-no (counted HeaderSizeKey) (no-header-size v ds t));
       }
 
-  block : IsBlock (header ++ l) (plainRules 2) 0 (rowWith (length header) (length l) a b c) (length (header ++ l))
+  block : IsBlock (header ++ l) (plainRules kind-2) 0 (rowWith (length header) (length l) a b c) (length (header ++ l))
   block =
       record {
         header = headerFor (keywordsWith v ds t);
         statements = statementsFor (keywordsWith v ds t);
+        entries = entriesFor (keywordsWith v ds t);
         stands = stands;
         starts = refl;
         length-is = refl;
-        rules = rw (rendered-entries (keywordsWith v ds t) l) keeps;
+        rules = keeps;
         ends = omega (arith, length-append header l);
         inside = omega arith;
       }
@@ -107,18 +114,19 @@ module _ (v : Values) (t l : List ℕ) {ds : List ℕ} (d : Dims ds) (w : AreWor
   one-block : Partition (header ++ l) (rowWith (length header) (length l) a b c ∷ [])
   one-block =
       record {
-        rules = plainRules 2;
+        rules = plainRules kind-2;
         first-header = record {
           header = headerFor (keywordsWith v ds t);
           statements = statementsFor (keywordsWith v ds t);
+          entries = entriesFor (keywordsWith v ds t);
           stands = stands;
-          declares = rw (rendered-entries (keywordsWith v ds t) l) (kind-2 (first-key v ds t) refl);
+          declares = data-first (first-key v ds t w) refl;
         };
         blocks = (length (header ++ l), block, refl);
         not-empty = omega arith;
         few = omega arith;
-        identities = ((λ y m x. List·Memᴰ·not-nil m), tt);
-        count = inl refl;
+        identities = λ k. ((λ y m x. List·Memᴰ·not-nil m), tt);
+        count = tt;
       }
 
 -- ---- The writer's file

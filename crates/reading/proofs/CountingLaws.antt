@@ -8,7 +8,8 @@ use native.Mathlib.Numerals.{add-one}
 use lib.ListN.{length}
 use Rattle.scan.specs.Byte.{same}
 use Rattle.scan.proofs.Cases.{by-test, none-some}
-use Rattle.header.specs.Entry.{Entry, key, entries, lookup}
+use Rattle.header.specs.Entries.{entries, lookup}
+use Rattle.header.specs.Entry.{Entry, key}
 use Rattle.header.specs.Grammar.{IsStatement}
 use Rattle.header.specs.Lookup.{firstStatement, entryOf}
 use Rattle.header.specs.Statements.{statementAt, leadingStatements}
@@ -16,7 +17,7 @@ use Rattle.header.specs.declared.Next.the-variants.{One, End, Malformed}
 use Rattle.header.specs.declared.Statement.{Statement}
 use Rattle.header.proofs.Leading.{statement-stands, leading-one, leading-end, leading-malformed}
 use Rattle.header.proofs.LookupLaws.{lookup-first, first-stands}
-use Rattle.blocks.specs.Keys.{isEdfKey, counting}
+use Rattle.blocks.specs.Counting.{isEdfKey, counting}
 use Rattle.reading.specs.Counting.{countingStatements}
 
 -- What the statements that count say are the entries that count.

@@ -15,7 +15,7 @@ use Rattle.text.specs.Fold.{fold}
 use Rattle.text.specs.Key.{keyOf}
 use Rattle.text.specs.Whitespace.{visible}
 use Rattle.text.proofs.KeySteps.{keyFrom, key-none, key-next}
-use Rattle.blocks.specs.Keys.{isEdfKey}
+use Rattle.blocks.specs.Counting.{isEdfKey}
 
 abbrev edf : List ℕ
 edf = ascii "edf_"

@@ -5,7 +5,7 @@ use mathlib.Core.Option.{Option·map}
 use Prim.Native.Nat.{ℕ, _+_}
 use native.Mathlib.Numerals.{add-one}
 use Rattle.scan.proofs.Cases.{by-option}
-use Rattle.header.specs.Entry.{value, entries, valueIn}
+use Rattle.header.specs.Entries.{value, entries, valueIn}
 use Rattle.header.specs.Lookup.{firstStatement, entryOf}
 use Rattle.header.specs.Statements.{statementAt}
 use Rattle.header.specs.declared.Next.the-variants.{One, End, Malformed}

@@ -9,11 +9,13 @@ use Rattle.text.specs.Fold.{fold, foldTable}
 use Rattle.text.specs.Key.{strip, keyOf}
 use Rattle.text.specs.Number.{wholeNumber}
 use Rattle.text.specs.Whitespace.{whitespace}
-use Rattle.header.specs.Entry.{Entry, value, lookup, valueIn}
+use Rattle.header.specs.Entries.{value, lookup, valueIn}
+use Rattle.header.specs.Entry.{Entry}
 use Rattle.header.specs.Lookup.{firstStatement}
 use Rattle.header.specs.Statements.{leadingStatements}
 use Rattle.header.specs.declared.Statement.{Statement}
-use Rattle.blocks.specs.Keys.{SizeKey, VersionKey, DataBlocksKey, BlockIDKey, BoundaryKey, HeaderSizeKey, BinarySizeKey, FileNameKey, counting, countingIn, sizeValue}
+use Rattle.blocks.specs.Counting.{counting, countingIn, sizeValue}
+use Rattle.blocks.specs.Keys.{SizeKey, VersionKey, DataBlocksKey, BlockIDKey, BoundaryKey, HeaderSizeKey, BinarySizeKey, FileNameKey}
 use Rattle.blocks.specs.Limits.{defaultBoundary}
 use Rattle.blocks.specs.Reading.{atLeast, numberOr}
 use Rattle.reading.specs.Counting.{countingStatements}

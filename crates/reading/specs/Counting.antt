@@ -4,7 +4,7 @@ use mathlib.Core.List.{List, [], _∷_}
 use Prim.Native.Nat.{ℕ}
 use Rattle.header.specs.Entry.{key}
 use Rattle.header.specs.declared.Statement.{Statement}
-use Rattle.blocks.specs.Keys.{isEdfKey}
+use Rattle.blocks.specs.Counting.{isEdfKey}
 
 unfoldable pub countingStatements : List ℕ → List Statement → List Statement
 countingStatements s [] = []

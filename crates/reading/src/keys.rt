@@ -11,7 +11,7 @@ ghost use Rattle.text.specs.Key.{keyOf};
 ghost use Rattle.header.specs.Answers.{soughtOption};
 ghost use Rattle.header.specs.Lookup.{firstStatement};
 ghost use Rattle.header.specs.Statements.{leadingStatements};
-ghost use Rattle.blocks.specs.Keys.{isEdfKey};
+ghost use Rattle.blocks.specs.Counting.{isEdfKey};
 ghost use Rattle.reading.specs.Counting.{countingStatements};
 
 // What an EDF_ key starts with, folded.

@@ -1,5 +1,5 @@
 -- The lines of a header, piece by piece.
-use mathlib.Core.Path.{_≡_, sym, ap, _∙_}
+use mathlib.Core.Path.{_≡_, refl, sym, ap, _∙_}
 use mathlib.Core.List.{List, [], _∷_, _++_, append-assoc, append-nil}
 use Prim.Native.Nat.{ℕ, _+_}
 use native.Mathlib.Omega.{arith}
@@ -7,7 +7,7 @@ use lib.IntN.{pos}
 use lib.ListN.{length, take, length-append}
 use Rattle.scan.specs.Byte.{ascii}
 use Rattle.text.specs.Decimal.{decimal, digitsOf}
-use Rattle.rendering.specs.Render.{keyword, dimKeywords, line, lines}
+use Rattle.rendering.specs.Render.{Keyword, keyword, dimKeywords, line, lines, opening}
 
 module _ (k v : List ℕ) where
   pub line-is : ((k ++ ascii " = ") ++ v) ++ ascii " ;\r\n" ≡ line (keyword k v)
@@ -17,6 +17,15 @@ module _ (k v : List ℕ) where
   pub line-length : length (line (keyword k v)) ≡ length k + length v + 7
   unfolding line
   line-length = simp length-append (omega arith)
+
+pub lines-append : (ks js : List Keyword) → lines (ks ++ js) ≡ lines ks ++ lines js
+unfolding lines
+lines-append [] js = refl
+lines-append (k ∷ ks) js = ap (λ (l : List ℕ). line k ++ l) (lines-append ks js) ∙ sym (append-assoc (line k) (lines ks) (lines js))
+
+pub opening-length : (ks : List Keyword) → length (opening ks) ≡ 3 + length (lines ks)
+unfolding opening
+opening-length ks = omega arith
 
 -- ---- The Dims
 

@@ -2,7 +2,7 @@
 use mathlib.Core.Path.{_≡_, refl, sym, ap, subst, _∙_}
 use mathlib.Core.Bool.{true, false}
 use mathlib.Core.List.{List, [], _∷_, _++_, map, append-assoc}
-use Prim.Native.Nat.{ℕ, suc, _+_, _-_, _/_, _%_, _≤_}
+use Prim.Native.Nat.{ℕ, suc, _+_, _-_, _≤_}
 use native.Mathlib.Omega.{arith}
 use lib.Dec.{eqb}
 use lib.ListN.{length, replicate, length-append, length-replicate}
@@ -14,11 +14,13 @@ use Rattle.text.proofs.Everys.{Each}
 use Rattle.text.specs.Text.{quotedText, escapedBody}
 use Rattle.text.proofs.Padding.{Blank, key-padded, spaced, Solid, plain-value, quoted-value, spaced-short}
 use Rattle.text.proofs.Parts.{From, each-nil, each-cons, each-append, each-head, each-tail, each-replicate, every-each, part-byte, mark-byte, part-is, rest-is}
-use Rattle.header.specs.Entry.{Entry, bodyOf, entries}
+use Rattle.header.specs.Entries.{entries}
+use Rattle.header.specs.Entry.{Entry, bodyOf}
 use Rattle.header.specs.Grammar.{StartPattern, EndPattern, BodyByte, IsHeader, Distinct, Parse}
 use Rattle.header.specs.declared.Header.{Header}
 use Rattle.header.specs.declared.Statement.{Statement}
 use Rattle.header.proofs.Laid.{Piece, laid, statementsAt, entriesAt, ValueByte, KeyByte, MayLay, blank-byte, laid-body, laid-parse, laid-entries}
+use Rattle.header.proofs.SayLaws.{entries-say}
 use Rattle.blocks.specs.Grammar.{HasHeader, MultipleOf}
 use Rattle.rendering.specs.Render.{Keyword, line, lines, padding, opening, renderedHeader}
 use Rattle.rendering.proofs.Padding.{padding-multiple}
@@ -162,13 +164,17 @@ module _ (ks : List Keyword) where
         laid-parse (renderedHeader ks ++ rest) (13 ∷ 10 ∷ spaces) headerFor (map pieceOf ks) body-from (may-lay-all ks (h .each))
         tail-blank (rw (pieces-keys ks) (h .distinct))
 
-    -- The header stands there, with its statements,
-    pub rendered-stands : MayRender ks → HasHeader (renderedHeader ks ++ rest) 0 headerFor statementsFor
-    rendered-stands h = record { header = rendered-header h; parse = rendered-parse h }
-
-    -- and this is what they say.
+    -- This is what the statements say,
     pub rendered-entries : entries (bodyOf (renderedHeader ks ++ rest) headerFor) statementsFor ≡ entriesFor
     rendered-entries = laid-entries (bodyOf (renderedHeader ks ++ rest) headerFor) (13 ∷ 10 ∷ spaces) 1 (map pieceOf ks) body-from
+
+    -- and the header stands there, with its statements.
+    pub rendered-stands : MayRender ks → HasHeader (renderedHeader ks ++ rest) 0 headerFor statementsFor entriesFor
+    rendered-stands h = record {
+      header = rendered-header h;
+      parse = rendered-parse h;
+      says = rw rendered-entries at (entries-say (bodyOf (renderedHeader ks ++ rest) headerFor) statementsFor);
+    }
 
   -- The header's length is a multiple of 512.
   pub rendered-multiple : MultipleOf 512 (length (renderedHeader ks))
@@ -194,11 +200,12 @@ said-values at (k ∷ ks) = cc (said-values _ ks)
 pub record ParsesBack (ks : List Keyword) (s : List ℕ) : Type 0 where
   pub header : Header
   pub statements : List Statement
-  pub stands : HasHeader s 0 header statements
+  pub entries : List Entry
+  pub stands : HasHeader s 0 header statements entries
   pub length-is : header .length ≡ length (renderedHeader ks)
   pub multiple : MultipleOf 512 (header .length)
-  pub keys : map (λ (e : Entry). e .key) (entries (bodyOf s header) statements) ≡ map folded ks
-  pub values : map (λ (e : Entry). e .value) (entries (bodyOf s header) statements) ≡ map (λ (k : Keyword). valueOf (spaced (k .value))) ks
+  pub keys : map (λ (e : Entry). e .key) entries ≡ map folded ks
+  pub values : map (λ (e : Entry). e .value) entries ≡ map (λ (k : Keyword). valueOf (spaced (k .value))) ks
 
 -- Whatever follows it.
 pub parses-back : (ks : List Keyword) (rest : List ℕ) → MayRender ks → ParsesBack ks (renderedHeader ks ++ rest)
@@ -206,11 +213,12 @@ parses-back ks rest h =
     record {
       header = headerFor ks;
       statements = statementsFor ks;
+      entries = entriesFor ks;
       stands = rendered-stands ks rest h;
       length-is = refl;
       multiple = rendered-multiple ks;
-      keys = ap (map (λ (e : Entry). e .key)) (rendered-entries ks rest) ∙ said-keys 1 ks;
-      values = ap (map (λ (e : Entry). e .value)) (rendered-entries ks rest) ∙ said-values 1 ks;
+      keys = said-keys 1 ks;
+      values = said-values 1 ks;
     }
 
 -- Bytes that are written for a value, and the value that is read back: the bytes themselves where they start and end with a visible

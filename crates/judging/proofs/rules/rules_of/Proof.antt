@@ -2,7 +2,8 @@
 use mathlib.Core.Path.{_≡_, sym, ap, _∙_}
 use native.Mathlib.Omega.{arith}
 use borrow.Author.Tests.{not-true, not-false}
-use Rattle.blocks.specs.Keys.{VersionKey, BlockIDKey, isEdfKey}
+use Rattle.blocks.specs.Counting.{isEdfKey}
+use Rattle.blocks.specs.Keys.{VersionKey, BlockIDKey}
 use Rattle.header.specs.Statements.{statementAt}
 use Rattle.header.specs.declared.Next.the-variants.{One}
 use Rattle.header.proofs.Leading.{statement-lies, part-key}

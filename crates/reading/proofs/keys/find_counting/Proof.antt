@@ -10,7 +10,7 @@ use Rattle.text.specs.Key.{keyOf}
 use Rattle.header.specs.Statements.{statementAt}
 use Rattle.header.specs.declared.Next.the-variants.{One}
 use Rattle.header.proofs.Leading.{statement-lies, part-key}
-use Rattle.blocks.specs.Keys.{isEdfKey}
+use Rattle.blocks.specs.Counting.{isEdfKey}
 use Rattle.reading.proofs.CountingLaws.{countingFrom, counting-end, counting-malformed, counting-stops, counting-hit, counting-miss}
 use borrow.Author.Needs.{needs}
 use Rattle.reading.proofs.keys.find_counting.Statement.{statement}

@@ -8,7 +8,7 @@ use Rattle.scan.specs.declared.Found.the-variants.{At}
 use Rattle.text.specs.Key.{keyOf}
 use Rattle.text.specs.Whitespace.{visible}
 use Rattle.text.proofs.KeySteps.{visible-inside}
-use Rattle.blocks.specs.Keys.{isEdfKey}
+use Rattle.blocks.specs.Counting.{isEdfKey}
 use Rattle.reading.proofs.EdfKeys.{edfFrom, edf-start, edf-end, edf-none, edf-other, edf-next}
 use borrow.Author.Needs.{needs}
 use Rattle.reading.proofs.keys.is_edf_key.Statement.{statement}
