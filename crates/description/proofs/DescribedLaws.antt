@@ -38,7 +38,7 @@ module _ {A B : Type 0} where
   check-ok (ok x) rest y e = (x, refl, e)
   check-ok (failed r) rest y e = absurd (ok-failed (sym e))
 
-required : (b : Bool) (code position : ℕ) (x : Unit {0}) → require b code position ≡ ok x → b ≡ true
+pub required : (b : Bool) (code position : ℕ) (x : Unit {0}) → require b code position ≡ ok x → b ≡ true
 required true code position x e = refl
 required false code position x e = absurd (ok-failed (sym e))
 

@@ -1,0 +1,11 @@
+pub mod Defaults
+pub mod Descriptions
+pub mod DimLaws
+pub mod FieldLaws
+pub mod HeaderLaws
+pub mod KeywordLaws
+pub mod Present
+pub mod ReadLaws
+pub mod Spared
+pub mod UnknownLaws
+pub mod WordLaws
