@@ -11,12 +11,14 @@ ghost use Prim.Native.Nat.{ℕ, _+_, _*_, _<_, _≤_};
 ghost use lib.ListN.{length};
 ghost use Rattle.raster.specs.Strided.{Inside2, Width, turned, rowOf, planeOf};
 ghost use Rattle.conversion.specs.Converting.{converted};
-ghost use Rattle.delivery.specs.Tiles.{tiled, tileRow, OneWay};
+ghost use Rattle.delivery.specs.Tiles.{tiled, tileRow, OneWay, slowRows};
 
 // Whether rows of n1 elements are slow, where the elements of a row are `slow` bytes apart and those of a column `fast`: a line
 // holds elements of several rows, and the lines of a row do not stay in the cache, since they share few places of it or stand
 // in more pages than the processor keeps.
-fn are_slow(fast: usize, slow: usize, n1: usize) -> bool {
+fn are_slow(fast: usize, slow: usize, n1: usize) -> bool
+    ensures { λ r. ⌜ r ≡ slowRows fast slow n1 ⌝ }
+{
     if 64 <= fast {
         return false;
     }

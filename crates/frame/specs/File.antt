@@ -1,7 +1,8 @@
 -- The file that the writer makes, with errors 24 and 25.
+use mathlib.Core.Path.{_≡_}
 use mathlib.Core.Bool.{Bool, false, _&&_}
 use mathlib.Core.List.{List, [], _∷_, _++_}
-use Prim.Native.Nat.{ℕ, _-_, _*_}
+use Prim.Native.Nat.{ℕ, _+_, _-_, _*_, _≤_}
 use lib.Dec.{eqb, leb}
 use lib.IntN.{ℤ, pos, negsuc}
 use lib.ListN.{length, take, getD}
@@ -18,6 +19,7 @@ use Rattle.array.specs.Delivery.{isOrder}
 use Rattle.rendering.specs.Render.{Keyword, dimKeywords, renderedHeader, filled}
 use Rattle.blocks.specs.Limits.{fileLimit}
 use Rattle.description.specs.Limits.{dimLimit}
+use Rattle.frame.specs.Limits.{headerRoom}
 use Rattle.frame.specs.declared.Frame.{Frame}
 
 -- "Dims past N are unread."
@@ -89,3 +91,7 @@ writtenFile f title pixels = do
   require (leb (length (fileOf f title pixels)) fileLimit) 24 0
   shortText title
   ok (fileOf f title pixels)
+
+-- A buffer that has room for every file.
+abbrev pub FitsFile : Frame → List ℕ → List ℕ → Type 0
+FitsFile f title pixels = (file : List ℕ) → writtenFile f title pixels ≡ ok file → length file ≤ length pixels + headerRoom

@@ -1,5 +1,5 @@
 -- Digits put one after another, the last first: a turn moves a digit from the number to the text.
-use mathlib.Core.Path.{_≡_, refl, ap, _∙_}
+use mathlib.Core.Path.{_≡_, refl, sym, ap, _∙_}
 use mathlib.Core.List.{List, [], _∷_}
 use Prim.Native.Nat.{ℕ, zero, suc, _+_, _-_, _/_, _%_, _^_, _≤_, _<_}
 use native.Mathlib.Nat.{le-of-suc-le-suc, not-suc-le-zero, pow-suc, div-lt-iff-lt-mul}
@@ -8,7 +8,7 @@ use native.Mathlib.Omega.{arith}
 use borrow.Author.Tests.{lt-ltb, le-ltb}
 use lib.IntN.{negsuc}
 use lib.ListN.{length, take, drop, set, length-drop}
-use lib.Seq.{take-all}
+use lib.Seq.{take-all, take-take, take-set-le}
 use Rattle.text.specs.Decimal.{digitsOf, decimal}
 
 -- After a store at j, the list from j on begins with what was stored.
@@ -16,6 +16,10 @@ stored : (t : List ℕ) (j g : ℕ) → j < length t → drop j (set t j g) ≡ 
 stored [] j g h = absurd (not-suc-le-zero h)
 stored (x ∷ xs) zero g h = refl
 stored (x ∷ xs) (suc j) g h = stored xs j g (le-of-suc-le-suc h)
+
+-- What stands before a store stays.
+pub front-kept : (k n i g : ℕ) (t before : List ℕ) → k ≤ n → k ≤ i → take n t ≡ take n before → take k (set t i g) ≡ take k before
+front-kept k n i g t before h l e = take-set-le k t i g l ∙ sym (take-take k n t h) ∙ ap (take k) e ∙ take-take k n before h
 
 pub more : (i n : ℕ) → 0 < i → 9 < n → n < 10 ^ i → 1 < i
 more zero n some h k = absurd (omega arith)

@@ -1,5 +1,5 @@
 -- The header that the writer makes, piece by piece.
-use mathlib.Core.Path.{_≡_, refl, sym, ap, _∙_}
+use mathlib.Core.Path.{_≡_, sym, ap, _∙_}
 use mathlib.Core.List.{List, [], _∷_, _++_, append-assoc, append-nil}
 use Prim.Native.Nat.{ℕ, _+_, _-_}
 use native.Mathlib.Omega.{arith}
@@ -13,14 +13,10 @@ use Rattle.raster.specs.Types.{orderWords}
 use Rattle.frame.specs.File.{frameDims, frameType, fileData, keywordsOf}
 use Rattle.writer.specs.Front.{leading, front, titled, closed}
 use Rattle.rendering.specs.Render.{keyword, dimKeywords, Keyword, line, lines, padding, opening, renderedHeader}
+use Rattle.rendering.proofs.LineLaws.{lines-append}
 use Rattle.frame.specs.Shape.{shapeDims, IsShape}
 use Rattle.frame.specs.declared.Frame.{Frame}
 use Rattle.frame.specs.declared.dims.Shape.{Shape}
-
-lines-append : (ks js : List Keyword) → lines (ks ++ js) ≡ lines ks ++ lines js
-unfolding lines
-lines-append [] js = refl
-lines-append (k ∷ ks) js = ap (λ (l : List ℕ). line k ++ l) (lines-append ks js) ∙ sym (append-assoc (line k) (lines ks) (lines js))
 
 five : (a b c d e g : List ℕ) → ((((a ++ b) ++ c) ++ d) ++ e) ++ g ≡ a ++ (b ++ (c ++ (d ++ (e ++ g))))
 five a b c d e g =

@@ -14,7 +14,8 @@ put-number-requires c κs = search needs
 returns : tie.Need-returns
 returns c =
     let start = c .before .before in
-    (c .put-number .ensures .0, omega arith, c .put-number .ensures .1 ∙ ap decimal (toZ-ofZ w64 (start .args .n) (start .fits .n)))
+    let put = c .put-number .ensures in
+    (put .0, omega arith, put .1 ∙ ap decimal (toZ-ofZ w64 (start .args .n) (start .fits .n)), put .2)
 
 pub decimal-spec : {M : Type 1} → statement M
 decimal-spec = tie.close (tie.spec put-number-requires returns)

@@ -1,9 +1,10 @@
 -- `text::decimal::put_number` meets its contract.
 use mathlib.Core.Path.{sym, ap, _∙_}
+use Prim.Native.Nat.{_-_}
 use native.Mathlib.Omega.{arith}
 use borrow.Author.Needs.{needs}
 use Rattle.text.specs.Decimal.{decimal}
-use Rattle.text.proofs.DigitWriting.{signed}
+use Rattle.text.proofs.DigitWriting.{front-kept, signed}
 use Rattle.text.proofs.Signs.{held, small}
 use Rattle.text.proofs.decimal.put_number.Statement.{statement}
 use Rattle.text.proofs.decimal.put_number.Tie as tie
@@ -41,7 +42,7 @@ returns c =
     let start = c .before .before .before .before .before .before .before .before .before in
     let d = c .before .before .put-digits in
     let number = held (start .args .n) _ _ (start .fits .n) (c .before .before .before .before .before .before .before .apart .ensures .0) (c .before .before .before .before .before .p .given .1) in
-    (search needs, d .ensures .2 ∙ sym (ap decimal number))
+    (search needs, d .ensures .2 ∙ sym (ap decimal number), d .ensures .3)
 
 same-length-2 : tie.Need-same-length-2
 same-length-2 c = search needs
@@ -51,7 +52,8 @@ returns-2 c =
     let start = c .before .before .before .before .before .before .before .before .before in
     let d = c .before .before .put-digits2 in
     let number = held (start .args .n) _ _ (start .fits .n) (c .before .before .before .before .before .before .before .apart .ensures .0) (c .before .before .before .before .before .p2 .given .1) in
-    (omega arith, signed _ _ _ (d .ensures .0) (omega arith) (d .ensures .2) ∙ sym (ap decimal number))
+    let text = signed _ _ _ (d .ensures .0) (omega arith) (d .ensures .2) ∙ sym (ap decimal number) in
+    (omega arith, text, front-kept (d .result - 1) (d .result) (d .result - 1) _ _ _ (omega arith) (omega arith) (d .ensures .3))
 
 pub put-number-spec : {M : Type 1} → statement M
 put-number-spec =
