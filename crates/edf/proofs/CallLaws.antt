@@ -1,12 +1,14 @@
 -- What the contracts of calls say of an answer: the variant that an outcome is, and the bytes that a call wrote.
 use mathlib.Core.Path.{_≡_, refl, sym, ap, _∙_}
+use mathlib.Core.Logic.{_↔_}
 use mathlib.Core.Bool.{Bool, true, false}
-use mathlib.Core.List.{List, _++_}
+use mathlib.Core.List.{List, _++_, map}
 use Prim.Native.Nat.{ℕ, _+_, _*_, _≤_, _<_}
-use borrow.Author.Tests.{le-leb, lt-leb, lt-ltb}
+use native.Mathlib.Omega.{arith}
+use borrow.Author.Tests.{le-leb, lt-leb, lt-ltb, leb-true}
 use lib.Dec.{leb}
 use lib.IntN.{ℤ}
-use lib.ListN.{length, take, drop}
+use lib.ListN.{length, take, drop, length-map}
 use lib.Seq.{take-at, drop-at}
 use Rattle.scan.specs.Buffer.{lengthWritten, bufferAfter}
 use Rattle.scan.specs.Byte.{partOf}
@@ -15,20 +17,22 @@ use Rattle.scan.specs.declared.Error.{Error}
 use Rattle.scan.specs.declared.Span.{Span}
 use Rattle.scan.proofs.Cases.{by-test, by-order, ok-failed}
 use Rattle.text.specs.Answers.{writtenOutcome}
-use Rattle.text.specs.Text.{every, textByte, valueByte, shortText, quotedText, escaped, unescaped}
+use Rattle.text.specs.Text.{every, textByte, valueByte, textOf, shortText, quotedText, escaped, unescaped}
+use Rattle.text.specs.Value.{valueOf}
 use Rattle.text.specs.declared.Written.{Written}
 use Rattle.text.specs.declared.Written.the-variants as written
 use Rattle.text.proofs.Parts.{every-each, each-every}
-use Rattle.text.proofs.Quoted.{quoted-bytes}
+use Rattle.text.proofs.Quoted.{quoted-bytes, quoted-length}
+use Rattle.header.specs.Entry.{Entry}
 use Rattle.text.proofs.RoundTrip.{text-back}
 use Rattle.blocks.specs.Answers.{openedOutcome}
-use Rattle.blocks.specs.Grammar.{Partition}
+use Rattle.blocks.specs.Grammar.{Partition, Cut, blockOf}
 use Rattle.blocks.specs.Opening.{openedFile, openedInto}
 use Rattle.blocks.specs.declared.Opened.{Opened}
 use Rattle.blocks.specs.declared.Opened.the-variants as opened
 use Rattle.blocks.specs.declared.Row.{Row}
 use Rattle.keyword.specs.Answers.{locatedOutcome, numberOutcome}
-use Rattle.keyword.specs.Keyword.{viewOf, entryOf, found, wholeNumberOf, textIn}
+use Rattle.keyword.specs.Keyword.{viewOf, entryOf, textIn}
 use Rattle.keyword.specs.declared.Located.{Located}
 use Rattle.keyword.specs.declared.Located.the-variants as located
 use Rattle.keyword.specs.declared.Number.{Number}
@@ -60,6 +64,7 @@ use Rattle.stored.proofs.Laws.{stored-seen}
 use Rattle.frame.specs.declared.Frame.{Frame}
 use Rattle.frame.proofs.Allowed as writer
 use Rattle.edf.specs.Calls.{IntoBuffer, Puts, Open, Describe, ReadArray, Stores}
+use Rattle.edf.specs.Opening.{Allowed}
 use Rattle.edf.proofs.OpeningLaws.{promised, counts-failed}
 
 -- ---- The answer by its outcome
@@ -119,6 +124,21 @@ storedBy (failed e) = stored.Failed e
 pub stored-by : (r : Stored) {o : Outcome StoredArray} → storedOutcome r ≡ o → r ≡ storedBy o
 stored-by (stored.Array a) e = ap storedBy e
 stored-by (stored.Failed x) e = ap storedBy e
+
+-- ---- An answer is a exactly if its outcome is that of a
+
+answers-as : {R A : Type 0} (outcome : R → Outcome A) (by : Outcome A → R) → ((r : R) → r ≡ by (outcome r))
+    → (r a : R) {o : Outcome A} → outcome r ≡ o → (r ≡ a) ↔ (o ≡ outcome a)
+answers-as outcome by back r a h = (λ e. sym h ∙ ap outcome e, λ e. back r ∙ ap by (h ∙ e) ∙ sym (back a))
+
+pub located-as : (r a : Located) {o : Outcome Span} → locatedOutcome r ≡ o → (r ≡ a) ↔ (o ≡ locatedOutcome a)
+located-as = answers-as locatedOutcome locatedBy (λ r. located-by r refl)
+
+pub number-as : (r a : Number) {o : Outcome ℤ} → numberOutcome r ≡ o → (r ≡ a) ↔ (o ≡ numberOutcome a)
+number-as = answers-as numberOutcome numberBy (λ r. number-by r refl)
+
+pub described-as : (r a : Described) {o : Outcome Description} → describedOutcome r ≡ o → (r ≡ a) ↔ (o ≡ describedOutcome a)
+described-as = answers-as describedOutcome describedBy (λ r. described-by r refl)
 
 -- ---- A call that writes
 
@@ -202,6 +222,32 @@ short-text : (t : List ℕ) {x : List ℕ} → shortText t ≡ ok x → shortTex
 unfolding shortText
 short-text t e = by-test (leb (length t) 1023) (λ q. rw q) (λ q. absurd (ok-failed (sym (rw q at e))))
 
+-- ---- How long texts are at most
+
+short-length : (t : List ℕ) {x : List ℕ} → shortText t ≡ ok x → length x ≤ 1023
+unfolding shortText
+short-length t e =
+    by-test (leb (length t) 1023) (λ q. rw (← same-ok (rw q at e)) (leb-true (length t) 1023 q)) (λ q. absurd (ok-failed (sym (rw q at e))))
+
+pub escaped-fits : (t : List ℕ) {w : List ℕ} → escaped t ≡ ok w → length w ≤ 2048
+unfolding escaped
+escaped-fits t {w} e =
+    let p = check-ok (require (every textByte t) 24 0) (shortText t >> ok (quotedText t)) w e in
+    let q = check-ok (shortText t) (ok (quotedText t)) w (p .2) in
+    rw (← same-ok (q .2)) (omega (arith, quoted-length t, short-length t (short-text t (q .1))))
+
+pub unescaped-fits : (v : List ℕ) {t : List ℕ} → unescaped v ≡ ok t → length t ≤ 1023
+unfolding unescaped
+unescaped-fits v {t} e =
+    let p = check-ok (require (every valueByte v) 24 0) (shortText (textOf (valueOf v))) t e in
+    short-length (textOf (valueOf v)) (p .2)
+
+pub text-fits : (s : List ℕ) (block : ℕ) (key : List ℕ) {t : List ℕ} → textIn s block key ≡ ok t → length t ≤ 1023
+unfolding textIn
+text-fits s block key {t} e =
+    let p = step-ok (entryOf s block key) (λ (x : Entry). shortText (textOf (x .value))) t e in
+    short-length (textOf (p .0 .value)) (p .2)
+
 -- Text in value form comes back.
 pub unescaped-back : (t : List ℕ) {w : List ℕ} → escaped t ≡ ok w → unescaped w ≡ ok t
 unfolding escaped unescaped
@@ -263,10 +309,12 @@ module _ {s : List ℕ} {block order : ℕ} {a : StoredArray} (call : Stores s b
 -- What `open` gives for a file with a partition.
 pub opens-rows : {s : List ℕ} {rows : List Row} → Partition s rows → length s ≤ 1073741824 → {table left : List Row} {r : Opened}
     → 256 ≤ length table → Open s table r left
-    → (r ≡ opened.Blocks (length rows)) × (take (length rows) left ≡ rows) × (drop (length rows) left ≡ drop (length rows) table)
-opens-rows c small h o =
-    let g = promised o .gives (record { file = small; table = h }) c in
-    (g .count, g .first, g .later)
+    → (r ≡ opened.Blocks (length rows)) × (left ≡ rows ++ drop (length rows) table)
+opens-rows {rows = rows} p small h o =
+    let cut : Cut _ (map blockOf rows) = record { rows = rows; partition = p; are = refl } in
+    let allowed : Allowed _ _ = record { file = small; table = h } in
+    let count = promised o .count allowed (map blockOf rows) cut in
+    (rw (length-map rows blockOf) at count, promised o .rows allowed (map blockOf rows) cut)
 
 -- A written file is within the limit.
 pub file-small : {f : Frame} {title pixels s : List ℕ} → writer.Writes f title pixels s → length s ≤ 1073741824
@@ -289,21 +337,9 @@ module _ {s : List ℕ} {table left : List Row} {x : Error} (rows : 256 ≤ leng
   unfolding viewOf
   no-view = rw (open-refused rows refuses)
 
-  no-entry : (key : List ℕ) → entryOf s block key ≡ failed x
+  pub no-entry : (key : List ℕ) → entryOf s block key ≡ failed x
   unfolding entryOf
   no-entry key = rw no-view
-
-  pub not-found : (key : List ℕ) → found s block key ≡ failed x
-  unfolding found
-  not-found key = rw (no-entry key)
-
-  pub no-number : (key : List ℕ) → wholeNumberOf s block key ≡ failed x
-  unfolding wholeNumberOf
-  no-number key = rw (no-entry key)
-
-  pub no-text : (key : List ℕ) → textIn s block key ≡ failed x
-  unfolding textIn
-  no-text key = rw (no-entry key)
 
   pub no-description : descriptionOf s block ≡ failed x
   unfolding descriptionOf

@@ -52,7 +52,7 @@ module _ {before after : List ℕ} {x : Error} where
   unescape-codes l c = unescape-gives before l .hold (sym (c .answers))
 
   pub write-codes : (f : Frame) (title pixels : List ℕ) → Write f title pixels before (Failed x) after → writeCodes (x .code) ≡ true
-  write-codes f title pixels c = write-gives before f title pixels .hold (sym (c .answers))
+  write-codes f title pixels c = write-gives before f title pixels .hold (sym (c .writes .answers))
 
   pub list-codes : (s : List ℕ) → Lists s before (Failed x) after → listCodes (x .code) ≡ true
   list-codes s c = list-gives before (listing s) .hold (sym (c .writes .answers))

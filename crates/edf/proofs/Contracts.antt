@@ -11,9 +11,10 @@ use contract.Monad.{Fun, fact, factI, fact-mono, fact-use}
 use denote.Ref.{now}
 use denote.Triple.Clauses.{Ended, AtExit, Clauses}
 use denote.Triple.Entry.{Args, Res}
-use Rattle.edf.specs.Calls.{Open, Find, WholeNumber, Text, Escape, Unescape, Describe, ReadArray, Stores, ReadPixel, Write, Lists}
+use Rattle.edf.specs.Calls.{Open, Find, Part, WholeNumber, Text, Escape, Unescape, Describe, ReadArray, Stores, ReadPixel, Write, Lists}
 use Rattle.edf.proofs.open as open′
 use Rattle.edf.proofs.find as find
+use Rattle.edf.proofs.part as part
 use Rattle.edf.proofs.whole_number as whole-number
 use Rattle.edf.proofs.text as text
 use Rattle.edf.proofs.escape as escape
@@ -45,6 +46,9 @@ module _ {M : Type 1} (𝓤 : URA M) (H : Heap 𝓤) (A : Atoms 𝓤) (mem : Mem
   pub finds : Gives find.ended (find.clauses 𝓤 H A mem run) (λ κs a r e. Find (now (a .0)) (a .1 .0) (now (a .1 .1 .0)) r)
   finds κs a g r e = both 𝓤 (λ x y. record { answers = x; bytes = y })
 
+  pub parts : Gives part.ended (part.clauses 𝓤 H A mem run) (λ κs a r e. Part (now (a .0)) (a .1 .0) (now r))
+  parts κs a g r e = fact-mono 𝓤 _ _ (λ x. record { answers = x })
+
   pub numbers : Gives whole-number.ended (whole-number.clauses 𝓤 H A mem run)
       (λ κs a r e. WholeNumber (now (a .0)) (a .1 .0) (now (a .1 .1 .0)) r)
   numbers κs a g r e = fact-mono 𝓤 _ _ (λ x. record { answers = x })
@@ -71,11 +75,13 @@ module _ {M : Type 1} (𝓤 : URA M) (H : Heap 𝓤) (A : Atoms 𝓤) (mem : Mem
 
   pub pixels : Gives read-pixel.ended (read-pixel.clauses 𝓤 H A mem run)
       (λ κs a r e. ReadPixel (now (a .0)) (a .1 .0) (a .1 .1 .0) (a .1 .1 .1 .0) (a .1 .1 .1 .1 .0) r)
-  pixels κs a g r e = fact-mono 𝓤 _ _ (λ x. record { answers = x })
+  pixels κs a g r e = fact-mono 𝓤 _ _ (λ x. record { answers = x .0; octets = x .1 })
 
   pub writes : Gives write.ended (write.clauses 𝓤 H A mem run)
       (λ κs a r e. Write (a .0) (now (a .1 .0)) (now (a .1 .1 .0)) (now (a .1 .1 .1 .0)) r (now (e .1 .1 .1 .0)))
-  writes κs a g r e = both 𝓤 (λ x y. record { answers = x; leaves = y })
+  writes κs a g r e =
+      both 𝓤
+      (λ x y. record { writes = record { answers = x .0; leaves = x .1 }; sequence = y .0; memory = y .1; octets = y .2; fits = y .3 })
 
   pub lists : Gives list.ended (list.clauses 𝓤 H A mem run) (λ κs a r e. Lists (now (a .0)) (now (a .1 .0)) r (now (e .1 .0)))
   lists κs a g r e = both 𝓤 (λ x y. record { writes = record { answers = x .0; leaves = y }; fits = x .1 })

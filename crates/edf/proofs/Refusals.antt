@@ -1,5 +1,6 @@
 -- Errors: what they leave as it was, and that those of opening come first.
 use mathlib.Core.Path.{_≡_, refl, _∙_}
+use mathlib.Core.Logic.{_↔_}
 use mathlib.Core.List.{List}
 use Prim.Native.Nat.{ℕ, _≤_, _<_}
 use lib.ListN.{length}
@@ -20,9 +21,10 @@ use Rattle.array.specs.declared.Sampled.{Sampled}
 use Rattle.array.specs.declared.Sampled.the-variants as sampled
 use Rattle.stored.specs.declared.Stored.{Stored}
 use Rattle.stored.specs.declared.Stored.the-variants as stored
+use Rattle.fields.proofs.ReadLaws.{not-found, no-number, no-text}
 use Rattle.edf.specs.Calls.{IntoBuffer, Open, Find, WholeNumber, Text, Describe, ReadArray, Stores, ReadPixel}
 use Rattle.edf.proofs.CallLaws.{located-by, number-by, described-by, sampled-by, stored-by, kept, refused-by}
-use Rattle.edf.proofs.CallLaws.{not-found, no-number, no-text, no-description, array-refused, stored-refused, pixel-refused}
+use Rattle.edf.proofs.CallLaws.{no-entry, no-description, array-refused, stored-refused, pixel-refused}
 use Rattle.edf.proofs.OpeningLaws.{promised}
 
 -- In an error of `text`, `escape`, `unescape`, `read_array`, `write` or `list` the lent buffer is as before; in one of `open` the table is.
@@ -30,28 +32,28 @@ pub buffer-untouched : (o : Outcome (List ℕ)) {before after : List ℕ} {x : E
 buffer-untouched = kept
 
 pub table-untouched : {s : List ℕ} {before after : List Row} {x : Error} → Open s before (opened.Failed x) after → after ≡ before
-table-untouched c = promised c .untouched refl
+table-untouched {x = x} c = promised c .untouched x refl
 
--- Before any error of a block, `open` gives 1 for a file over the limit, and 2 for a table under 256 rows.
-pub over-limit : {s : List ℕ} {before after : List Row} {r : Opened} → 1073741824 < length s → Open s before r after
-    → r ≡ opened.Failed (errorAt 1 0)
-over-limit h c = promised c .over-limit h
+-- `open` gives 1 exactly for a file over the limit, and else 2 exactly for a table under 256 rows.
+pub over-limit : {s : List ℕ} {before after : List Row} {r : Opened} → Open s before r after
+    → (r ≡ opened.Failed (errorAt 1 0)) ↔ (1073741824 < length s)
+over-limit c = promised c .over-limit
 
-pub few-rows : {s : List ℕ} {before after : List Row} {r : Opened} → length s ≤ 1073741824 → length before < 256 → Open s before r after
-    → r ≡ opened.Failed (errorAt 2 0)
-few-rows h l c = promised c .few-rows h l
+pub few-rows : {s : List ℕ} {before after : List Row} {r : Opened} → Open s before r after
+    → (r ≡ opened.Failed (errorAt 2 0)) ↔ ((length s ≤ 1073741824) × (length before < 256))
+few-rows c = promised c .few-rows
 
 -- Where `open`, with a table of enough rows, gives an error, each call on a block of that file gives that error.
 module _ {s : List ℕ} {table left : List Row} {x : Error} (rows : 256 ≤ length table) (refuses : Open s table (opened.Failed x) left)
     (block : ℕ) where
   pub find-refuses : {key : List ℕ} {r : Located} → Find s block key r → r ≡ located.Failed x
-  find-refuses {key} {r} c = located-by r (c .answers ∙ not-found rows refuses block key)
+  find-refuses {key} {r} c = located-by r (c .answers ∙ not-found s block key (no-entry rows refuses block key))
 
   pub number-refuses : {key : List ℕ} {r : Number} → WholeNumber s block key r → r ≡ number.Failed x
-  number-refuses {key} {r} c = number-by r (c .answers ∙ no-number rows refuses block key)
+  number-refuses {key} {r} c = number-by r (c .answers ∙ no-number s block key (no-entry rows refuses block key))
 
   pub text-refuses : (key : List ℕ) {before after : List ℕ} {r : Written} → Text s block key before r after → (r ≡ Failed x) × (after ≡ before)
-  text-refuses key c = refused-by (no-text rows refuses block key) c
+  text-refuses key c = refused-by (no-text s block key (no-entry rows refuses block key)) c
 
   pub describe-refuses : {r : Described} → Describe s block r → r ≡ described.Failed x
   describe-refuses {r} c = described-by r (c .answers ∙ no-description rows refuses block)

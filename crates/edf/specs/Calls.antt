@@ -4,8 +4,12 @@ use mathlib.Core.Path.{_≡_}
 use mathlib.Core.List.{List, _++_}
 use Prim.Native.Nat.{ℕ}
 use lib.ListN.{length, drop}
+use mir.Syntax.{w64}
+use mir.Val.{SFits}
 use Rattle.scan.specs.Buffer.{lengthWritten, bufferAfter}
+use Rattle.scan.specs.Byte.{partOf}
 use Rattle.scan.specs.Outcome.{Outcome, ok}
+use Rattle.scan.specs.declared.Span.{Span}
 use Rattle.text.specs.Answers.{writtenOutcome}
 use Rattle.text.specs.Text.{escaped, unescaped}
 use Rattle.text.specs.declared.Written.{Written}
@@ -18,6 +22,7 @@ use Rattle.keyword.specs.Answers.{locatedOutcome, locatedBytes, numberOutcome}
 use Rattle.keyword.specs.Keyword.{found, valueFound, wholeNumberOf, textIn}
 use Rattle.keyword.specs.declared.Located.{Located}
 use Rattle.keyword.specs.declared.Number.{Number}
+use Rattle.raster.specs.Strided.{Octets}
 use Rattle.description.specs.Answers.{describedOutcome}
 use Rattle.description.specs.Describe.{descriptionOf}
 use Rattle.description.specs.declared.Described.{Described}
@@ -26,7 +31,7 @@ use Rattle.array.specs.Delivery.{arrayIn, pixelIn}
 use Rattle.array.specs.declared.Sampled.{Sampled}
 use Rattle.stored.specs.Stored.{storedArray, storedOutcome, Delivers}
 use Rattle.stored.specs.declared.Stored.{Stored}
-use Rattle.frame.specs.File.{writtenFile}
+use Rattle.frame.specs.File.{writtenFile, FitsFile}
 use Rattle.frame.specs.declared.Frame.{Frame}
 use Rattle.listing.specs.Listing.{listing, FitsListing}
 
@@ -48,6 +53,10 @@ pub record Open (file : List ℕ) (before : List Row) (r : Opened) (after : List
 pub record Find (file : List ℕ) (block : ℕ) (key : List ℕ) (r : Located) : Type 0 where
   pub answers : locatedOutcome r ≡ found file block key
   pub bytes : locatedBytes file r ≡ valueFound file block key
+
+-- part(file, p)
+pub record Part (file : List ℕ) (p : Span) (r : List ℕ) : Type 0 where
+  pub answers : r ≡ partOf file p
 
 -- whole_number(file, block, key)
 pub record WholeNumber (file : List ℕ) (block : ℕ) (key : List ℕ) (r : Number) : Type 0 where
@@ -78,13 +87,18 @@ pub record Stores (file : List ℕ) (block order : ℕ) (r : Stored) : Type 0 wh
   pub answers : storedOutcome r ≡ storedArray file block order
   pub delivers : Delivers file block order r
 
--- read_pixel(file, block, i1, i2, i3)
+-- read_pixel(file, block, i1, i2, i3). The file is a slice of u8.
 pub record ReadPixel (file : List ℕ) (block i1 i2 i3 : ℕ) (r : Sampled) : Type 0 where
   pub answers : sampledOutcome r ≡ pixelIn file block i1 i2 i3
+  pub octets : Octets file
 
--- write(frame, title, pixels, out)
-abbrev pub Write : Frame → List ℕ → List ℕ → List ℕ → Written → List ℕ → Type 0
-Write frame title pixels = IntoBuffer (writtenFile frame title pixels)
+-- write(frame, title, pixels, out). The frame's numbers are i64, and the pixels a slice of u8.
+pub record Write (frame : Frame) (title pixels before : List ℕ) (r : Written) (after : List ℕ) : Type 0 where
+  pub writes : IntoBuffer (writtenFile frame title pixels) before r after
+  pub sequence : SFits w64 (frame .sequence)
+  pub memory : SFits w64 (frame .memory)
+  pub octets : Octets pixels
+  pub fits : FitsFile frame title pixels
 
 -- list(file, out)
 pub record Lists (file before : List ℕ) (r : Written) (after : List ℕ) : Type 0 where

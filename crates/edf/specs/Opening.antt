@@ -1,42 +1,53 @@
 -- What opening a file into a lent table promises, stated by the grammar of a file: nothing here says how a file is read.
 use mathlib.Core.Path.{_≡_}
 use mathlib.Core.Logic.{_↔_}
-use mathlib.Core.List.{List}
+use mathlib.Core.List.{List, [], _++_, List·Memᴰ}
 use Prim.Native.Nat.{ℕ, _≤_, _<_}
-use lib.ListN.{length, take, drop}
+use lib.ListN.{length, drop}
 use Rattle.scan.specs.Outcome.{errorAt}
 use Rattle.scan.specs.declared.Error.{Error}
-use Rattle.blocks.specs.Limits.{fileLimit, blockLimit}
+use Rattle.header.specs.Grammar.{Parse}
+use Rattle.header.specs.declared.Header.{Header}
+use Rattle.header.specs.declared.Statement.{Statement}
 use Rattle.blocks.specs.Cases.{FileError}
-use Rattle.blocks.specs.Grammar.{Partition}
+use Rattle.blocks.specs.Grammar.{Block, Cut, BlockHeader}
+use Rattle.blocks.specs.Limits.{fileLimit, blockLimit}
 use Rattle.blocks.specs.declared.Opened.{Opened}
 use Rattle.blocks.specs.declared.Opened.the-variants.{Blocks, Failed}
 use Rattle.blocks.specs.declared.Row.{Row}
 
--- Neither 1, "file over 1,073,741,824 bytes", nor 2, "table under 256 rows".
-pub record Allowed (s : List ℕ) (before : List Row) : Type 0 where
+-- Neither 1, "file over 1,073,741,824 bytes", nor 2, "table under 256 rows", is due of a table of so many rows.
+pub record Allowed (s : List ℕ) (room : ℕ) : Type 0 where
   pub file : length s ≤ fileLimit
-  pub table : blockLimit ≤ length before
+  pub table : blockLimit ≤ room
 
--- "Opening answers the cut's block count and gives a table row for each of its blocks, in order": the answer and the table for a file
--- with the blocks `rows`.
-pub record Gives (rows before : List Row) (r : Opened) (after : List Row) : Type 0 where
-  pub count : r ≡ Blocks (length rows)
-  pub first : take (length rows) after ≡ rows
-  -- "Rows past the last block keep what they held."
-  pub later : drop (length rows) after ≡ drop (length rows) before
+-- Demand 3, of a call that opens the file s into a table of `room` rows. `Answers n`: it answers that there are n blocks. `Fails e`: it
+-- answers the error e. `Holds rows`: its table then holds these rows, and all later rows are as they were.
+pub record Opens (s : List ℕ) (room : ℕ) (Answers : ℕ → Type 0) (Fails : Error → Type 0) (Holds : List Row → Type 0) : Type 0 where
+  -- A file is accepted exactly if it has a cut.
+  pub accepted : Allowed s room → ((n : ℕ) × Answers n) ↔ ((blocks : List Block) × Cut s blocks)
+  -- "Opening answers the cut's block count and gives a table row for each of its blocks, in order .. Rows past the last block keep what
+  -- they held."
+  pub count : Allowed s room → (blocks : List Block) → Cut s blocks → Answers (length blocks)
+  pub rows : Allowed s room → (blocks : List Block) (cut : Cut s blocks) → Holds (cut .rows)
+  -- Any two cuts of a file are equal,
+  pub one-cut : (blocks others : List Block) → Cut s blocks → Cut s others → blocks ≡ others
+  -- with every field of their rows.
+  pub one-table : (blocks others : List Block) (cut : Cut s blocks) (other : Cut s others) → cut .rows ≡ other .rows
+  -- Every header of a cut has a parse, and any two parses of a header are equal.
+  pub parsed : (blocks : List Block) → Cut s blocks → (b : Block) → List·Memᴰ b blocks → BlockHeader s b
+  pub one-parse : (h : Header) (ts us : List Statement) → Parse s h ts → Parse s h us → ts ≡ us
+  -- Each error is given exactly in its case: 1, then 2, then those of the blocks.
+  pub over-limit : Fails (errorAt 1 0) ↔ (fileLimit < length s)
+  pub few-rows : Fails (errorAt 2 0) ↔ ((length s ≤ fileLimit) × (room < blockLimit))
+  pub errors : Allowed s room → (e : Error) → Fails e ↔ FileError s e
+  -- "Lent memory is untouched in every refusal."
+  pub untouched : (e : Error) → Fails e → Holds []
+
+-- The table `after` holds the rows, and behind them what it held before.
+abbrev pub HoldsRows : List Row → List Row → List Row → Type 0
+HoldsRows before after rows = after ≡ rows ++ drop (length rows) before
 
 -- Opening the file s into a table that held `before`, whatever that is, answers r and leaves `after` in the table.
-pub record OpensAs (s : List ℕ) (before : List Row) (r : Opened) (after : List Row) : Type 0 where
-  -- A file is accepted exactly if it has a partition (01: a cut), and then the answer and the table are those of the partition.
-  pub accepted : Allowed s before → ((n : ℕ) × (r ≡ Blocks n)) ↔ ((rows : List Row) × Partition s rows)
-  pub gives : Allowed s before → {rows : List Row} → Partition s rows → Gives rows before r after
-  -- A file has one partition at most.
-  pub one : {rows others : List Row} → Partition s rows → Partition s others → rows ≡ others
-  -- Each error is given exactly in its case: 1, then 2, then those of the blocks.
-  pub over-limit : fileLimit < length s → r ≡ Failed (errorAt 1 0)
-  pub few-rows : length s ≤ fileLimit → length before < blockLimit → r ≡ Failed (errorAt 2 0)
-  pub errors : Allowed s before → {e : Error} → (r ≡ Failed e) ↔ FileError s e
-  -- "Lent memory is untouched in every refusal."
-  pub untouched : {e : Error} → r ≡ Failed e → after ≡ before
-  pub same-length : length after ≡ length before
+abbrev pub OpensAs : List ℕ → List Row → Opened → List Row → Type 0
+OpensAs s before r after = Opens s (length before) (λ n. r ≡ Blocks n) (λ e. r ≡ Failed e) (HoldsRows before after)

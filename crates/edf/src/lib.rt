@@ -13,6 +13,8 @@ use stored::Stored;
 use text::Written;
 ghost use mathlib.Core.Path.{_≡_};
 ghost use lib.ListN.{length};
+ghost use mir.Syntax.{w64};
+ghost use mir.Val.{SFits};
 ghost use Rattle.scan.specs.Buffer.{lengthWritten, bufferAfter};
 ghost use Rattle.scan.specs.Byte.{partOf};
 ghost use Rattle.scan.specs.Outcome.{ok};
@@ -22,12 +24,13 @@ ghost use Rattle.blocks.specs.Answers.{openedOutcome};
 ghost use Rattle.blocks.specs.Opening.{openedInto, countOf, tableAfter};
 ghost use Rattle.keyword.specs.Answers.{locatedOutcome, locatedBytes, numberOutcome};
 ghost use Rattle.keyword.specs.Keyword.{found, valueFound, wholeNumberOf, textIn};
+ghost use Rattle.raster.specs.Strided.{Octets};
 ghost use Rattle.description.specs.Answers.{describedOutcome};
 ghost use Rattle.description.specs.Describe.{descriptionOf};
 ghost use Rattle.array.specs.Answers.{sampledOutcome};
 ghost use Rattle.array.specs.Delivery.{arrayIn, pixelIn};
 ghost use Rattle.stored.specs.Stored.{storedArray, storedOutcome, Delivers};
-ghost use Rattle.frame.specs.File.{writtenFile};
+ghost use Rattle.frame.specs.File.{writtenFile, FitsFile};
 ghost use Rattle.listing.specs.Listing.{listing, FitsListing};
 ghost use Rattle.edf.specs.Opening.{OpensAs};
 
@@ -126,20 +129,21 @@ pub fn stored_array(file: &[u8], block: usize, order: u8) -> Stored
 }
 
 // One pixel of a block's array: its value at an index of three numbers, those past the array's dimensions being 0. Errors:
-// those of `describe`; 23 index outside.
+// those of `describe`; 23 index outside. The contract also says that the file holds bytes.
 pub fn read_pixel(file: &[u8], block: usize, i1: usize, i2: usize, i3: usize) -> Sampled
-    ensures { λ r. ⌜ sampledOutcome r ≡ pixelIn (now (file .entry)) block i1 i2 i3 ⌝ }
+    ensures { λ r. ⌜ (sampledOutcome r ≡ pixelIn (now (file .entry)) block i1 i2 i3) × Octets (now (file .entry)) ⌝ }
 {
     array::read::read_pixel(file, block, i1, i2, i3)
 }
 
 // Writes a file of one block at the front of the lent buffer: how many bytes. The pixels come in raster configuration 1, with the high
-// byte first; the file has them in the frame's configuration and byte order, filled with zero bytes to a multiple of 512. Errors,
-// in which the buffer is untouched: 24 a code, memory, dimension or configuration that is not allowed, pixels not as long as the
-// frame describes, a byte of the title outside 1 to 127, or a file over 1,073,741,824 bytes; 25 title too long; 22 buffer too small.
+// byte first; the file has them in the frame's configuration and byte order, filled with zero bytes to a multiple of 512. 4,096 bytes
+// more than the pixels are enough for every file. Errors, in which the buffer is untouched: 24 a code, memory, dimension or configuration
+// that is not allowed, pixels not as long as the frame describes, a byte of the title outside 1 to 127, or a file over 1,073,741,824
+// bytes; 25 title too long; 22 buffer too small. The contract also says what the arguments hold: numbers of 64 bits, and bytes.
 pub fn write(frame: Frame, title: &[u8], pixels: &[u8], out: &mut [u8]) -> Written
-    ensures { λ r. ⌜ writtenOutcome r ≡ lengthWritten (writtenFile frame (now (title .entry)) (now (pixels .entry))) (now (out .entry)) ⌝ }
-    ensures { λ _. ⌜ now (out .exit) ≡ bufferAfter (writtenFile frame (now (title .entry)) (now (pixels .entry))) (now (out .entry)) ⌝ }
+    ensures { λ r. ⌜ (writtenOutcome r ≡ lengthWritten (writtenFile frame (now (title .entry)) (now (pixels .entry))) (now (out .entry))) × (now (out .exit) ≡ bufferAfter (writtenFile frame (now (title .entry)) (now (pixels .entry))) (now (out .entry))) ⌝ }
+    ensures { λ _. ⌜ SFits w64 (frame .sequence) × SFits w64 (frame .memory) × Octets (now (pixels .entry)) × FitsFile frame (now (title .entry)) (now (pixels .entry)) ⌝ }
 {
     writer::file::write(frame, title, pixels, out)
 }

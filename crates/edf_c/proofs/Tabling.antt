@@ -80,8 +80,8 @@ rows-after (ok rows) d = refl
 rows-after (failed e) d = refl
 
 -- The code r, the number w of blocks, the position q and the lent numbers are those of the outcome o.
-abbrev pub Opens : Outcome (List Row) → List ℕ → ℕ → ℕ → ℕ → ℕ → ℕ → List ℕ → Type 0
-Opens o before v p r w q after =
+abbrev pub OpenedAs : Outcome (List Row) → List ℕ → ℕ → ℕ → ℕ → ℕ → ℕ → List ℕ → Type 0
+OpenedAs o before v p r w q after =
     (r ≡ codeOf (countOf o))
     × ((w ≡ valueAfter (countOf o) v) × ((q ≡ positionAfter (countOf o) p) × (after ≡ numbersAfter o before)))
 
@@ -90,12 +90,12 @@ module _ (o : Outcome (List Row)) (before after : List ℕ) (v p : ℕ) {n : ℕ
   placed : after ≡ numbersAfter o before
   placed = laid ∙ ap (λ (rows : List Row). over (allNumbers rows) before) (h .places) ∙ rows-after o before
 
-  pub opens : {k : ℕ} → plan .answer ≡ Blocks k → Opens o before v p 0 k p after
+  pub opens : {k : ℕ} → plan .answer ≡ Blocks k → OpenedAs o before v p 0 k p after
   opens {k} q =
       let a : Answers (countOf o) v p 0 k p = succeeds (countOf o) v p (sym (ap openedOutcome q) ∙ h .answers) in
       (a .0, (a .1 .0, (a .1 .1, placed)))
 
-  pub opens-none : {e : Error} → plan .answer ≡ Failed e → Opens o before v p (e .code) v (e .position) after
+  pub opens-none : {e : Error} → plan .answer ≡ Failed e → OpenedAs o before v p (e .code) v (e .position) after
   opens-none {e} q =
       let a : Answers (countOf o) v p (e .code) v (e .position) =
       fails (countOf o) v p (sym (ap openedOutcome q) ∙ h .answers) in

@@ -13,6 +13,7 @@ ghost use Rattle.blocks.specs.Opening.{openedInto, countOf};
 ghost use Rattle.listing.specs.Listing.{listing, FitsListing};
 ghost use Rattle.edf_c.specs.Answers.{codeOf, valueAfter, positionAfter};
 ghost use Rattle.edf_c.specs.Fields.{spanOf};
+ghost use Rattle.edf_c.specs.Opening.{OpensNumbers};
 ghost use Rattle.edf_c.specs.Table.{numbersAfter};
 
 // Opens a file into a lent table, as `edf::open` does. The table is lent as numbers, seven a row, of which the file's blocks take
@@ -28,6 +29,7 @@ pub extern "C" fn edf_open(
     ensures { λ _. ⌜ now (count .exit) ≡ valueAfter (countOf (openedInto (length (now (rows .entry)) / 7) (now (file .entry)))) (now (count .entry)) ⌝ }
     ensures { λ _. ⌜ now (position .exit) ≡ positionAfter (countOf (openedInto (length (now (rows .entry)) / 7) (now (file .entry)))) (now (position .entry)) ⌝ }
     ensures { λ _. ⌜ now (rows .exit) ≡ numbersAfter (openedInto (length (now (rows .entry)) / 7) (now (file .entry))) (now (rows .entry)) ⌝ }
+    ensures { λ r. ⌜ OpensNumbers (now (file .entry)) (now (rows .entry)) r (now (count .exit)) (now (position .exit)) (now (rows .exit)) ⌝ }
 {
     let p = opening::table::planned(file, rows.len() / ROW);
     let answer = p.answer;

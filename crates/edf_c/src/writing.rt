@@ -3,7 +3,7 @@ use crate::answers::put_written;
 use frame::Frame;
 ghost use mathlib.Core.Path.{_≡_};
 ghost use Rattle.scan.specs.Buffer.{lengthWritten, bufferAfter};
-ghost use Rattle.frame.specs.File.{writtenFile};
+ghost use Rattle.frame.specs.File.{writtenFile, FitsFile};
 ghost use Rattle.edf_c.specs.Answers.{codeOf, valueAfter, positionAfter};
 ghost use Rattle.edf_c.specs.Fields.{frameOf};
 
@@ -26,7 +26,7 @@ pub extern "C" fn edf_write(
     written: &mut usize,
     position: &mut usize,
 ) -> u8
-    ensures { λ r. ⌜ r ≡ codeOf (lengthWritten (writtenFile (frameOf sequence instance memory datatype byteorder n dim1 dim2 dim3 configuration) (now (title .entry)) (now (pixels .entry))) (now (out .entry))) ⌝ }
+    ensures { λ r. ⌜ (r ≡ codeOf (lengthWritten (writtenFile (frameOf sequence instance memory datatype byteorder n dim1 dim2 dim3 configuration) (now (title .entry)) (now (pixels .entry))) (now (out .entry)))) × FitsFile (frameOf sequence instance memory datatype byteorder n dim1 dim2 dim3 configuration) (now (title .entry)) (now (pixels .entry)) ⌝ }
     ensures { λ _. ⌜ now (written .exit) ≡ valueAfter (lengthWritten (writtenFile (frameOf sequence instance memory datatype byteorder n dim1 dim2 dim3 configuration) (now (title .entry)) (now (pixels .entry))) (now (out .entry))) (now (written .entry)) ⌝ }
     ensures { λ _. ⌜ now (position .exit) ≡ positionAfter (lengthWritten (writtenFile (frameOf sequence instance memory datatype byteorder n dim1 dim2 dim3 configuration) (now (title .entry)) (now (pixels .entry))) (now (out .entry))) (now (position .entry)) ⌝ }
     ensures { λ _. ⌜ now (out .exit) ≡ bufferAfter (writtenFile (frameOf sequence instance memory datatype byteorder n dim1 dim2 dim3 configuration) (now (title .entry)) (now (pixels .entry))) (now (out .entry)) ⌝ }

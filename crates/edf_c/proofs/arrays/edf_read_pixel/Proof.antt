@@ -33,27 +33,27 @@ enum-known-e c = search needs
 returns : tie.Need-returns
 returns c =
     let m = c .before .before .before .before in
-    samples _ _ _ (m .before .before .read-pixel .ensures) (Unsigned _) (m .p .given .1) (c .before .p2 .given .1)
+    samples _ _ _ (m .before .before .read-pixel .ensures .0) (Unsigned _) (m .p .given .1) (c .before .p2 .given .1)
 
 returns-2 : tie.Need-returns-2
 returns-2 c =
     let fits : SFits w64 (c .before .p3 .given .0 .0) = search needs in
     let m = c .before .before .before .before in
-    samples _ _ _ (m .before .before .read-pixel .ensures) (Signed _) (m .p .given .1)
+    samples _ _ _ (m .before .before .read-pixel .ensures .0) (Signed _) (m .p .given .1)
     (c .before .p3 .given .1 ∙ sym (ap Signed (toZ-ofZ w64 _ fits)))
 
 returns-3 : tie.Need-returns-3
 returns-3 c =
     let m = c .before .before .before .before in
-    samples _ _ _ (m .before .before .read-pixel .ensures) (Float32 _) (m .p .given .1) (c .before .p4 .given .1)
+    samples _ _ _ (m .before .before .read-pixel .ensures .0) (Float32 _) (m .p .given .1) (c .before .p4 .given .1)
 
 returns-4 : tie.Need-returns-4
 returns-4 c =
     let m = c .before .before .before .before in
-    samples _ _ _ (m .before .before .read-pixel .ensures) (Float64 _) (m .p .given .1) (c .before .p5 .given .1)
+    samples _ _ _ (m .before .before .read-pixel .ensures .0) (Float64 _) (m .p .given .1) (c .before .p5 .given .1)
 
 returns-5 : tie.Need-returns-5
-returns-5 c = samples-none _ _ _ (c .before .before .before .read-pixel .ensures) (c .before .e .given .1)
+returns-5 c = samples-none _ _ _ (c .before .before .before .read-pixel .ensures .0) (c .before .e .given .1)
 
 pub edf-read-pixel-spec : {M : Type 1} → statement M
 edf-read-pixel-spec =

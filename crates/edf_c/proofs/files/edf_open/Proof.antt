@@ -1,4 +1,5 @@
 -- `edf_c::files::edf_open` meets its contract.
+use Rattle.edf_c.proofs.Opening.{opens-numbers}
 use Rattle.edf_c.proofs.Tabling.{opens, opens-none}
 use borrow.Author.Needs.{needs}
 use Rattle.edf_c.proofs.files.edf_open.Statement.{statement}
@@ -22,7 +23,8 @@ same-length c = search needs
 returns : tie.Need-returns
 returns c =
     let w = c .before .before .before .before .before in
-    opens _ _ _ _ _ (w .before .before .planned .ensures) (w .put-rows .ensures) (c .before .answer .given .1)
+    let e = opens _ _ _ _ _ (w .before .before .planned .ensures) (w .put-rows .ensures) (c .before .answer .given .1) in
+    (e .0, (e .1 .0, (e .1 .1 .0, (e .1 .1 .1, opens-numbers _ _ _ _ _ _ _ _ e))))
 
 same-length-2 : tie.Need-same-length-2
 same-length-2 c = search needs
@@ -30,7 +32,8 @@ same-length-2 c = search needs
 returns-2 : tie.Need-returns-2
 returns-2 c =
     let w = c .before .before .before .before .before in
-    opens-none _ _ _ _ _ (w .before .before .planned .ensures) (w .put-rows .ensures) (c .before .answer2 .given .1)
+    let e = opens-none _ _ _ _ _ (w .before .before .planned .ensures) (w .put-rows .ensures) (c .before .answer2 .given .1) in
+    (e .0, (e .1 .0, (e .1 .1 .0, (e .1 .1 .1, opens-numbers _ _ _ _ _ _ _ _ e))))
 
 pub edf-open-spec : {M : Type 1} → statement M
 edf-open-spec =
