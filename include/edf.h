@@ -160,7 +160,7 @@ uint8_t edf_stored_array(const uint8_t *file, size_t file_length, size_t block, 
 
 /* One pixel of a block's array, at an index of three numbers from 0; those past the array's dimensions are 0. *class_ is
  * EDF_UNSIGNED, EDF_SIGNED, EDF_FLOAT32 or EDF_FLOAT64, and the number of that class is set; the numbers of the other classes stay
- * as they were. Errors: those of edf_describe, 23. */
+ * as they were. Which bits a NaN has is not said; edf_read_array moves the bits. Errors: those of edf_describe, 23. */
 uint8_t edf_read_pixel(const uint8_t *file, size_t file_length, size_t block, size_t i1, size_t i2, size_t i3, uint8_t *class_,
                        uint64_t *unsigned_, int64_t *signed_, float *float32, double *float64, size_t *position);
 
