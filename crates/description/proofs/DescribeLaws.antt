@@ -1,5 +1,5 @@
 -- The description of an array, check after check, on plain values.
-use mathlib.Core.Path.{_≡_, refl, _∙_}
+use mathlib.Core.Path.{_≡_, refl, ap, _∙_}
 use mathlib.Core.Bool.{true, false}
 use mathlib.Core.List.{List}
 use Prim.Native.Nat.{ℕ, _*_, _≤_, _<_}
@@ -14,8 +14,12 @@ use Rattle.scan.specs.Outcome.{Outcome, ok, failed, refused, _>>=_}
 use Rattle.scan.specs.declared.Error.{Error}
 use Rattle.scan.proofs.Cases.{by-outcome}
 use Rattle.keyword.specs.Keyword.{View, viewOf}
-use Rattle.keyword.specs.Viewing.{viewAt}
+use Rattle.keyword.specs.Viewing.{viewAt, valueBytes}
 use Rattle.keyword.specs.declared.Block.{Block}
+use Rattle.origins.specs.Fields.{FieldValues, valuesBy, valuesIn, foundValues}
+use Rattle.origins.specs.Origins.{foundOrigins, originsIn}
+use Rattle.origins.specs.declared.Fields.{Fields}
+use Rattle.origins.specs.declared.Origins.{Origins}
 use Rattle.raster.specs.Axis.{configurations}
 use Rattle.raster.specs.Position.{product}
 use Rattle.raster.specs.Types.{Class, unsigned, signed, float, classNumber, typeOf, typeWords, orderWords, compressionWords}
@@ -23,83 +27,79 @@ use Rattle.description.specs.Answers.{dimList}
 use Rattle.description.specs.Describe.{Values, wordsOf, dimsOf, offsetAllowed, described, descriptionIn, descriptionOf}
 use Rattle.description.specs.Fields.{wordField, rangeField, wholeField}
 use Rattle.description.specs.Limits.{dimLimit}
-use Rattle.description.specs.Parts.{fieldsOf, SmallDims, extentsOf, numbersOf, checkedArray, numberedArray}
+use Rattle.description.specs.Parts.{fieldsOf, dimsAfterNone, SmallDims, extentsOf, numbersFrom, checkedArray, numberedArray}
 use Rattle.description.specs.declared.Description.{Description}
 use Rattle.description.specs.declared.describe.Extents.{Extents}
 use Rattle.description.specs.declared.dimensions.Dims.{Dims}
 use Rattle.description.specs.declared.dimensions.Dims.the-variants as dims
 use Rattle.description.specs.declared.numbers.Numbers.{Numbers}
 use Rattle.description.specs.declared.words.Words.{Words}
+use Rattle.description.proofs.DimLaws.{dims-from-none}
 
 -- ---- Fields 1 to 3
 
-module _ (look : Values) where
-  pub bad-type : {x : Error} → failed x ≡ wordField 1 typeWords 7 (look (ascii "DataType")) → failed x ≡ wordsOf look
+module _ (v : FieldValues) where
+  pub bad-type : {x : Error} → failed x ≡ wordField 1 typeWords 7 (v .datatype) → failed x ≡ wordsOf v
   unfolding wordsOf
   bad-type e = rw (← e)
 
-  module _ {t : ℕ} (e : ok t ≡ wordField 1 typeWords 7 (look (ascii "DataType"))) where
-    pub bad-order : {x : Error} → failed x ≡ wordField 2 orderWords 1 (look (ascii "ByteOrder")) → failed x ≡ wordsOf look
+  module _ {t : ℕ} (e : ok t ≡ wordField 1 typeWords 7 (v .datatype)) where
+    pub bad-order : {x : Error} → failed x ≡ wordField 2 orderWords 1 (v .byteorder) → failed x ≡ wordsOf v
     unfolding wordsOf
     bad-order f = rw (← e, ← f)
 
-    module _ {o : ℕ} (f : ok o ≡ wordField 2 orderWords 1 (look (ascii "ByteOrder"))) where
-      pub bad-compression : {x : Error} → failed x ≡ wordField 3 compressionWords 1 (look (ascii "Compression"))
-          → failed x ≡ wordsOf look
+    module _ {o : ℕ} (f : ok o ≡ wordField 2 orderWords 1 (v .byteorder)) where
+      pub bad-compression : {x : Error} → failed x ≡ wordField 3 compressionWords 1 (v .compression) → failed x ≡ wordsOf v
       unfolding wordsOf
       bad-compression g = rw (← e, ← f, ← g)
 
-      pub good-words : {c : ℕ} → ok c ≡ wordField 3 compressionWords 1 (look (ascii "Compression"))
-          → ok (record { datatype = t; byteorder = o; compression = c }) ≡ wordsOf look
+      pub good-words : {c : ℕ} → ok c ≡ wordField 3 compressionWords 1 (v .compression)
+          → ok (record { datatype = t; byteorder = o; compression = c }) ≡ wordsOf v
       unfolding wordsOf
       good-words g = rw (← e, ← f, ← g)
 
 -- ---- Fields 5 to 7
 
-module _ (look : Values) (most : ℕ) where
-  pub bad-configuration : {x : Error} → failed x ≡ rangeField 5 most 1 (look (ascii "DataRasterConfiguration"))
-      → failed x ≡ numbersOf look most
-  unfolding numbersOf
+module _ (v : FieldValues) (most : ℕ) where
+  pub bad-configuration : {x : Error} → failed x ≡ rangeField 5 most 1 (v .configuration) → failed x ≡ numbersFrom v most
+  unfolding numbersFrom
   bad-configuration e = rw (← e)
 
-  module _ {c : ℕ} (e : ok c ≡ rangeField 5 most 1 (look (ascii "DataRasterConfiguration"))) where
-    pub bad-orientation : {x : Error} → failed x ≡ rangeField 6 most 1 (look (ascii "RasterOrientation"))
-        → failed x ≡ numbersOf look most
-    unfolding numbersOf
+  module _ {c : ℕ} (e : ok c ≡ rangeField 5 most 1 (v .configuration)) where
+    pub bad-orientation : {x : Error} → failed x ≡ rangeField 6 most 1 (v .orientation) → failed x ≡ numbersFrom v most
+    unfolding numbersFrom
     bad-orientation f = rw (← e, ← f)
 
-    module _ {o : ℕ} (f : ok o ≡ rangeField 6 most 1 (look (ascii "RasterOrientation"))) where
-      pub bad-offset : {x : Error} → failed x ≡ wholeField 7 (pos 0) (look (ascii "DataValueOffset"))
-          → failed x ≡ numbersOf look most
-      unfolding numbersOf
+    module _ {o : ℕ} (f : ok o ≡ rangeField 6 most 1 (v .orientation)) where
+      pub bad-offset : {x : Error} → failed x ≡ wholeField 7 (pos 0) (v .offset) → failed x ≡ numbersFrom v most
+      unfolding numbersFrom
       bad-offset g = rw (← e, ← f, ← g)
 
-      -- The code holds the offset z as y.
-      pub good-numbers : {z : ℤ} → ok z ≡ wholeField 7 (pos 0) (look (ascii "DataValueOffset")) → {y : ℤ} → y ≡ z
-          → ok (record { configuration = c; orientation = o; offset = y }) ≡ numbersOf look most
-      unfolding numbersOf
+      pub good-numbers : {z : ℤ} → ok z ≡ wholeField 7 (pos 0) (v .offset) → {y : ℤ} → y ≡ z
+          → ok (record { configuration = c; orientation = o; offset = y }) ≡ numbersFrom v most
+      unfolding numbersFrom
       good-numbers g q = rw (← e, ← f, ← g, q)
 
-module _ (look : Values) (size : ℕ) (words : Words) (dims : List ℕ) {most : ℕ} (m : most ≡ configurations (length dims)) where
-  pub bad-numbers : {x : Error} → failed x ≡ numbersOf look most → failed x ≡ numberedArray look size words dims
+module _ (v : FieldValues) (origins : Origins) (size : ℕ) (words : Words) (dims : List ℕ) {most : ℕ} (m : most ≡ configurations (length dims)) where
+  pub bad-numbers : {x : Error} → failed x ≡ numbersFrom v most → failed x ≡ numberedArray v origins size words dims
   unfolding numberedArray
   bad-numbers e = rw (← m, ← e)
 
-  pub by-numbers : {numbers : Numbers} → ok numbers ≡ numbersOf look most → {x : Outcome Description}
-      → x ≡ checkedArray words dims numbers size → x ≡ numberedArray look size words dims
+  pub by-numbers : {numbers : Numbers} → ok numbers ≡ numbersFrom v most → {found : Origins} → found ≡ origins → {x : Outcome Description}
+      → x ≡ checkedArray words dims numbers found size → x ≡ numberedArray v origins size words dims
   unfolding numberedArray
-  by-numbers e q = rw (← m, ← e) q
+  by-numbers e f q = rw (← m, ← e, ← f) q
 
 -- One field after the other.
-field-by-field : (look : Values) (size : ℕ) (words : Words) (dims : List ℕ)
-    → numberedArray look size words dims
+field-by-field : (look : Values) (origins : Origins) (size : ℕ) (words : Words) (dims : List ℕ)
+    → numberedArray (valuesBy look) origins size words dims
     ≡ (do
       configuration ← rangeField 5 (configurations (length dims)) 1 (look (ascii "DataRasterConfiguration"))
       orientation ← rangeField 6 (configurations (length dims)) 1 (look (ascii "RasterOrientation"))
       offset ← wholeField 7 (pos 0) (look (ascii "DataValueOffset"))
-      checkedArray words dims (record { configuration = configuration; orientation = orientation; offset = offset }) size)
-unfolding numberedArray numbersOf
-field-by-field look size words dims =
+      checkedArray words dims (record { configuration = configuration; orientation = orientation; offset = offset }) origins size)
+unfolding numberedArray numbersFrom
+field-by-field look origins size words dims =
     let most = configurations (length dims) in
     by-outcome (rangeField 5 most 1 (look (ascii "DataRasterConfiguration")))
     (λ c e. by-outcome (rangeField 6 most 1 (look (ascii "RasterOrientation")))
@@ -119,13 +119,13 @@ pub small-extents : {x : Extents} (ds : List ℕ) → x ≡ extentsOf ds → Sma
     → (x .dim1 ≤ dimLimit) × (x .dim2 ≤ dimLimit) × (x .dim3 ≤ dimLimit)
 small-extents ds e h = rw e (h 0, h 1, h 2)
 
-module _ (words : Words) (d : Dims) (numbers : Numbers) (size : ℕ)
+module _ (words : Words) (d : Dims) (numbers : Numbers) (origins : Origins) (size : ℕ)
     {x : Extents} (e : x ≡ extentsOf (dimList d)) {width : ℕ} (w : width ≡ typeOf (words .datatype) .width) where
   total : x .dim1 * x .dim2 * x .dim3 * width ≡ product (dimList d) * typeOf (words .datatype) .width
   total = rw (e, w, byte-total d)
 
   module _ {n : ℕ} (is : n ≡ x .dim1 * x .dim2 * x .dim3 * width) where
-    pub too-short : size < n → refused 20 0 ≡ checkedArray words (dimList d) numbers size
+    pub too-short : size < n → refused 20 0 ≡ checkedArray words (dimList d) numbers origins size
     unfolding checkedArray
     too-short h = rw (lt-leb (product (dimList d) * typeOf (words .datatype) .width) size (rw (is, total) at h))
 
@@ -134,7 +134,7 @@ module _ (words : Words) (d : Dims) (numbers : Numbers) (size : ℕ)
       long-enough = le-leb _ size (rw (is, total) at h)
 
       pub offset-refused : offsetAllowed (typeOf (words .datatype) .class) (numbers .offset) ≡ false
-          → refused 21 0 ≡ checkedArray words (dimList d) numbers size
+          → refused 21 0 ≡ checkedArray words (dimList d) numbers origins size
       unfolding checkedArray
       offset-refused a = rw (long-enough, a)
 
@@ -151,8 +151,9 @@ module _ (words : Words) (d : Dims) (numbers : Numbers) (size : ℕ)
             configuration = numbers .configuration;
             orientation = numbers .orientation;
             offset = z;
+            origins = origins;
           })
-          ≡ checkedArray words (dimList d) numbers size
+          ≡ checkedArray words (dimList d) numbers origins size
       unfolding checkedArray
       array-described a q = rw (long-enough, a, e, q)
 
@@ -182,21 +183,33 @@ module _ (s : List ℕ) (b : Block) where
   unfolding descriptionIn viewAt
   general-block h = rw (ne-eqb (b .row .kind) 1 h)
 
-  module _ (k : b .row .kind ≡ 1) where
-    pub bad-words : {x : Error} → failed x ≡ wordsOf (fieldsOf s b) → failed x ≡ descriptionIn (viewAt s b)
+  -- The fields that were found are those of the block.
+  module _ (k : b .row .kind ≡ 1) (f : Fields) (found : foundValues s f ≡ valuesIn (viewAt s b)) where
+    pub words-read : {o : Outcome Words} → o ≡ wordsOf (foundValues s f) → o ≡ wordsOf (valuesBy (fieldsOf s b))
+    words-read e = e ∙ ap wordsOf found
+
+    pub dims-read : {o : Outcome (List ℕ)} → o ≡ dimsAfterNone (fieldsOf s b) (valueBytes s (f .dims .value)) → o ≡ dimsOf (fieldsOf s b)
+    dims-read e =
+        dims-from-none (fieldsOf s b) (e ∙ ap (λ (v : FieldValues). dimsAfterNone (fieldsOf s b) (v .dims)) found)
+
+    pub bad-words : {x : Error} → failed x ≡ wordsOf (foundValues s f) → failed x ≡ descriptionIn (viewAt s b)
     unfolding descriptionIn viewAt described
-    bad-words e = rw (eq-eqb (b .row .kind) 1 k, ← e)
+    bad-words e = rw (eq-eqb (b .row .kind) 1 k, ← words-read e)
 
-    module _ {words : Words} (e : ok words ≡ wordsOf (fieldsOf s b)) where
-      pub bad-dims : {x : Error} → failed x ≡ dimsOf (fieldsOf s b) → failed x ≡ descriptionIn (viewAt s b)
+    module _ {words : Words} (e : ok words ≡ wordsOf (foundValues s f)) where
+      pub bad-dims : {x : Error} → failed x ≡ dimsAfterNone (fieldsOf s b) (valueBytes s (f .dims .value))
+          → failed x ≡ descriptionIn (viewAt s b)
       unfolding descriptionIn viewAt described
-      bad-dims f = rw (eq-eqb (b .row .kind) 1 k, ← e, ← f)
+      bad-dims g = rw (eq-eqb (b .row .kind) 1 k, ← words-read e, ← dims-read g)
 
-      pub good-dims : {dims : List ℕ} → ok dims ≡ dimsOf (fieldsOf s b) → {x : Outcome Description}
-          → x ≡ numberedArray (fieldsOf s b) (b .row .size) words dims → x ≡ descriptionIn (viewAt s b)
+      pub good-dims : {dims : List ℕ} → ok dims ≡ dimsAfterNone (fieldsOf s b) (valueBytes s (f .dims .value))
+          → foundOrigins f ≡ originsIn (viewAt s b) → {x : Outcome Description}
+          → x ≡ numberedArray (foundValues s f) (foundOrigins f) (b .row .size) words dims → x ≡ descriptionIn (viewAt s b)
       unfolding descriptionIn viewAt described checkedArray
-      good-dims {dims} f q =
-          rw (eq-eqb (b .row .kind) 1 k, ← e, ← f) (q ∙ field-by-field (fieldsOf s b) (b .row .size) words dims)
+      good-dims {dims} g from q =
+          rw (eq-eqb (b .row .kind) 1 k, ← words-read e, ← dims-read g)
+          (q ∙ (λ i. numberedArray (found i) (from i) (b .row .size) words dims)
+          ∙ field-by-field (fieldsOf s b) (originsIn (viewAt s b)) (b .row .size) words dims)
 
 -- ---- By its number
 

@@ -17,6 +17,9 @@ use Rattle.scan.proofs.Cases.{none-some, ok-failed}
 use Rattle.text.specs.Number.{wholeNumber}
 use Rattle.keyword.specs.Keyword.{View}
 use Rattle.keyword.specs.Viewing.{valueIn}
+use Rattle.origins.specs.Fields.{valuesBy}
+use Rattle.origins.specs.Origins.{originsIn}
+use Rattle.origins.specs.declared.Origins.{Origins}
 use Rattle.raster.specs.Axis.{configurations}
 use Rattle.raster.specs.Position.{product}
 use Rattle.raster.specs.Types.{types, typeOf, typeWords, orderWords, compressionWords, codeFrom, codeOf}
@@ -188,7 +191,7 @@ unfolding configurations
 configurations-some zero = omega arith
 configurations-some (suc n) = mul-pos {m = 2 * suc n} (omega arith) (configurations-some n)
 
-words-valid : (look : Values) (w : Words) → wordsOf look ≡ ok w
+words-valid : (look : Values) (w : Words) → wordsOf (valuesBy look) ≡ ok w
     → ((1 ≤ w .datatype) × (w .datatype ≤ 10)) × ((1 ≤ w .byteorder) × (w .byteorder ≤ 2))
 unfolding wordsOf typeWords types orderWords
 words-valid look w e =
@@ -200,10 +203,10 @@ words-valid look w e =
     let o = word-in 2 orderWords 1 2 (look (ascii "ByteOrder")) (q .0) refl (omega arith) (omega arith) (q .1) in
     subst (λ (x : Words). ((1 ≤ x .datatype) × (x .datatype ≤ 10)) × ((1 ≤ x .byteorder) × (x .byteorder ≤ 2))) (same-ok (r .2)) (t, o)
 
-pub described-valid : (look : Values) (size : ℕ) (d : Description) → described look size ≡ ok d → ValidArray d size
+pub described-valid : (look : Values) (origins : Origins) (size : ℕ) (d : Description) → described look origins size ≡ ok d → ValidArray d size
 unfolding described
-described-valid look size d e =
-    let p = step-ok (wordsOf look) _ d e in
+described-valid look origins size d e =
+    let p = step-ok (wordsOf (valuesBy look)) _ d e in
     let q = step-ok (dimsOf look) _ d (p .2) in
     let most = configurations (length (q .0)) in
     let r = step-ok (rangeField 5 most 1 (look (ascii "DataRasterConfiguration"))) _ d (q .2) in
@@ -212,7 +215,7 @@ described-valid look size d e =
     let type = typeOf (p .0 .datatype) in
     let u = check-ok (require (leb (product (q .0) * type .width) size) 20 0) _ d (t .2) in
     let v = check-ok (require (offsetAllowed (type .class) (t .0)) 21 0)
-    (ok (descriptionWith (p .0) (q .0) (r .0) (s .0) (t .0))) d (u .2) in
+    (ok (descriptionWith (p .0) (q .0) (r .0) (s .0) (t .0) origins)) d (u .2) in
     let words = words-valid look (p .0) (p .1) in
     let m = dims-valid look (q .0) (q .1) in
     let c = field-in 5 most (look (ascii "DataRasterConfiguration")) (r .0) (configurations-some (length (q .0))) (r .1) in
@@ -236,4 +239,4 @@ described-valid look size d e =
 -- The same of a block of a file.
 pub block-valid : (v : View) (d : Description) → descriptionIn v ≡ ok d → ValidArray d (v .row .size)
 unfolding descriptionIn
-block-valid v d e = let p = check-ok (require (eqb (v .row .kind) 1) 16 0) _ d e in described-valid (valueIn v) (v .row .size) d (p .2)
+block-valid v d e = let p = check-ok (require (eqb (v .row .kind) 1) 16 0) _ d e in described-valid (valueIn v) (originsIn v) (v .row .size) d (p .2)

@@ -10,6 +10,9 @@ use Rattle.scan.specs.Byte.{ascii}
 use Rattle.scan.specs.Outcome.{Outcome, ok, require, _>>=_, _>>_}
 use Rattle.keyword.specs.Keyword.{View, viewOf}
 use Rattle.keyword.specs.Viewing.{valueIn}
+use Rattle.origins.specs.Fields.{FieldValues, valuesBy}
+use Rattle.origins.specs.Origins.{originsIn}
+use Rattle.origins.specs.declared.Origins.{Origins}
 use Rattle.raster.specs.Axis.{configurations}
 use Rattle.raster.specs.Position.{product}
 use Rattle.raster.specs.Types.{Class, unsigned, signed, float, typeOf, typeWords, orderWords, compressionWords}
@@ -34,16 +37,16 @@ dimsOf look = do
   ok (orEmpty ds)
 
 -- Fields 1 to 3, as their codes.
-unfoldable pub wordsOf : Values → Outcome Words
-wordsOf look = do
-  datatype ← wordField 1 typeWords 7 (look (ascii "DataType"))
-  byteorder ← wordField 2 orderWords 1 (look (ascii "ByteOrder"))
-  compression ← wordField 3 compressionWords 1 (look (ascii "Compression"))
+unfoldable pub wordsOf : FieldValues → Outcome Words
+wordsOf v = do
+  datatype ← wordField 1 typeWords 7 (v .datatype)
+  byteorder ← wordField 2 orderWords 1 (v .byteorder)
+  compression ← wordField 3 compressionWords 1 (v .compression)
   ok (record { datatype = datatype; byteorder = byteorder; compression = compression })
 
 -- The description with these fields. Dims past N are 1, as in 000.
-abbrev pub descriptionWith : Words → List ℕ → ℕ → ℕ → ℤ → Description
-descriptionWith words dims configuration orientation offset =
+abbrev pub descriptionWith : Words → List ℕ → ℕ → ℕ → ℤ → Origins → Description
+descriptionWith words dims configuration orientation offset origins =
     record {
       datatype = words .datatype;
       byteorder = words .byteorder;
@@ -55,6 +58,7 @@ descriptionWith words dims configuration orientation offset =
       configuration = configuration;
       orientation = orientation;
       offset = offset;
+      origins = origins;
     }
 
 abbrev pub isFloat : Class → Bool
@@ -70,23 +74,23 @@ isZero (negsuc n) = false
 unfoldable pub offsetAllowed : Class → ℤ → Bool
 offsetAllowed class offset = not (isFloat class) || isZero offset
 
--- By the values of the fields and the size of the data. 20: "extent shorter than the array".
-unfoldable pub described : Values → ℕ → Outcome Description
-described look size = do
-  words ← wordsOf look
+-- By the values of the fields, their origins and the size of the data. 20: "extent shorter than the array".
+unfoldable pub described : Values → Origins → ℕ → Outcome Description
+described look origins size = do
+  words ← wordsOf (valuesBy look)
   dims ← dimsOf look
   configuration ← rangeField 5 (configurations (length dims)) 1 (look (ascii "DataRasterConfiguration"))
   orientation ← rangeField 6 (configurations (length dims)) 1 (look (ascii "RasterOrientation"))
   offset ← wholeField 7 (pos 0) (look (ascii "DataValueOffset"))
   require (leb (product dims * typeOf (words .datatype) .width) size) 20 0
   require (offsetAllowed (typeOf (words .datatype) .class) offset) 21 0
-  ok (descriptionWith words dims configuration orientation offset)
+  ok (descriptionWith words dims configuration orientation offset origins)
 
 -- Of a block of a file. 16 also where "an array [is] asked of the general block".
 unfoldable pub descriptionIn : View → Outcome Description
 descriptionIn b = do
   require (eqb (b .row .kind) 1) 16 0
-  described (valueIn b) (b .row .size)
+  described (valueIn b) (originsIn b) (b .row .size)
 
 unfoldable pub descriptionOf : List ℕ → ℕ → Outcome Description
 descriptionOf s block = do

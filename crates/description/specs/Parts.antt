@@ -10,6 +10,8 @@ use Rattle.scan.specs.Outcome.{Outcome, ok, refused, present, require, _>>=_, _
 use Rattle.text.specs.Number.{wholeNumber}
 use Rattle.keyword.specs.Viewing.{viewAt, valueIn}
 use Rattle.keyword.specs.declared.Block.{Block}
+use Rattle.origins.specs.Fields.{FieldValues}
+use Rattle.origins.specs.declared.Origins.{Origins}
 use Rattle.raster.specs.Axis.{configurations}
 use Rattle.raster.specs.Position.{product}
 use Rattle.raster.specs.Types.{typeOf}
@@ -39,6 +41,9 @@ dimsAfter front (some v ∷ next ∷ rest) = do
   d ← present (inRange 1 dimLimit (wholeNumber v)) 18 4
   dimsAfter (front ++ (d ∷ [])) (next ∷ rest)
 
+abbrev pub dimsAfterNone : Values → Option (List ℕ) → Outcome (List ℕ)
+dimsAfterNone look first = dimsAfter [] (first ∷ look (ascii "Dim_2") ∷ look (ascii "Dim_3") ∷ look (ascii "Dim_4") ∷ [])
+
 abbrev pub dimsAfterOne : Values → ℕ → Outcome (List ℕ)
 dimsAfterOne look a = dimsAfter (a ∷ []) (look (ascii "Dim_2") ∷ look (ascii "Dim_3") ∷ look (ascii "Dim_4") ∷ [])
 
@@ -57,22 +62,22 @@ abbrev pub extentsOf : List ℕ → Extents
 extentsOf ds = record { n = length ds; dim1 = getD ds 0 1; dim2 = getD ds 1 1; dim3 = getD ds 2 1 }
 
 -- Fields 5 to 7, where there are `most` configurations.
-unfoldable pub numbersOf : Values → ℕ → Outcome Numbers
-numbersOf look most = do
-  configuration ← rangeField 5 most 1 (look (ascii "DataRasterConfiguration"))
-  orientation ← rangeField 6 most 1 (look (ascii "RasterOrientation"))
-  offset ← wholeField 7 (pos 0) (look (ascii "DataValueOffset"))
+unfoldable pub numbersFrom : FieldValues → ℕ → Outcome Numbers
+numbersFrom v most = do
+  configuration ← rangeField 5 most 1 (v .configuration)
+  orientation ← rangeField 6 most 1 (v .orientation)
+  offset ← wholeField 7 (pos 0) (v .offset)
   ok (record { configuration = configuration; orientation = orientation; offset = offset })
 
 -- What follows the fields: 20 and 21.
-unfoldable pub checkedArray : Words → List ℕ → Numbers → ℕ → Outcome Description
-checkedArray words dims numbers size = do
+unfoldable pub checkedArray : Words → List ℕ → Numbers → Origins → ℕ → Outcome Description
+checkedArray words dims numbers origins size = do
   require (leb (product dims * typeOf (words .datatype) .width) size) 20 0
   require (offsetAllowed (typeOf (words .datatype) .class) (numbers .offset)) 21 0
-  ok (descriptionWith words dims (numbers .configuration) (numbers .orientation) (numbers .offset))
+  ok (descriptionWith words dims (numbers .configuration) (numbers .orientation) (numbers .offset) origins)
 
 -- What follows field 4.
-unfoldable pub numberedArray : Values → ℕ → Words → List ℕ → Outcome Description
-numberedArray look size words dims = do
-  numbers ← numbersOf look (configurations (length dims))
-  checkedArray words dims numbers size
+unfoldable pub numberedArray : FieldValues → Origins → ℕ → Words → List ℕ → Outcome Description
+numberedArray v origins size words dims = do
+  numbers ← numbersFrom v (configurations (length dims))
+  checkedArray words dims numbers origins size

@@ -13,6 +13,10 @@ use super::words::words_of;
 use keyword::Block;
 use keyword::Viewed;
 use keyword::view::view;
+use origins::Fields;
+use origins::Origins;
+use origins::search::fields_of;
+use origins::search::origins_of;
 use raster::types::class_of;
 use raster::types::width_of;
 use scan::Error;
@@ -23,12 +27,14 @@ ghost use Prim.Native.Nat.{_*_, _≤_};
 ghost use lib.ListN.{length};
 ghost use Rattle.scan.specs.Outcome.{refused};
 ghost use Rattle.keyword.specs.Viewing.{viewAt};
+ghost use Rattle.origins.specs.Fields.{foundValues};
+ghost use Rattle.origins.specs.Origins.{foundOrigins};
 ghost use Rattle.raster.specs.Axis.{configurations};
 ghost use Rattle.raster.specs.Types.{typeOf};
 ghost use Rattle.description.specs.Answers.{dimList, describedOutcome};
 ghost use Rattle.description.specs.Describe.{offsetAllowed, descriptionIn, descriptionOf};
 ghost use Rattle.description.specs.Limits.{dimLimit};
-ghost use Rattle.description.specs.Parts.{fieldsOf, SmallDims, extentsOf, checkedArray, numberedArray};
+ghost use Rattle.description.specs.Parts.{SmallDims, extentsOf, checkedArray, numberedArray};
 
 // Dims as a description has them: there are n, and those past n are 1.
 pub struct Extents {
@@ -104,9 +110,15 @@ fn offset_allowed(datatype: u8, offset: i64) -> bool
 
 // The description with these fields, in a block with `size` bytes of data: 20 where the array is longer, then 21 for a float
 // with an offset.
-fn check_array(words: Words, dims: Dims, numbers: Numbers, size: usize) -> Described
+fn check_array(
+    words: Words,
+    dims: Dims,
+    numbers: Numbers,
+    origins: Origins,
+    size: usize,
+) -> Described
     requires { ⌜ SmallDims (dimList dims) ⌝ }
-    ensures { λ r. ⌜ describedOutcome r ≡ checkedArray words (dimList dims) numbers size ⌝ }
+    ensures { λ r. ⌜ describedOutcome r ≡ checkedArray words (dimList dims) numbers origins size ⌝ }
 {
     let e = extents_of(dims);
     let width = width_of(words.datatype);
@@ -125,6 +137,7 @@ fn check_array(words: Words, dims: Dims, numbers: Numbers, size: usize) -> Descr
             configuration: numbers.configuration,
             orientation: numbers.orientation,
             offset: numbers.offset,
+            origins: origins,
         })
     } else {
         refuse(21)
@@ -132,14 +145,13 @@ fn check_array(words: Words, dims: Dims, numbers: Numbers, size: usize) -> Descr
 }
 
 // After field 4.
-fn number_array(file: &[u8], b: Block, words: Words, dims: Dims) -> Described
+fn number_array(file: &[u8], f: Fields, size: usize, words: Words, dims: Dims) -> Described
     requires { ⌜ SmallDims (dimList dims) ⌝ }
-    ensures { λ r. ⌜ describedOutcome r ≡ numberedArray (fieldsOf (now (file .entry)) b) (b .row .size) words (dimList dims) ⌝ }
+    ensures { λ r. ⌜ describedOutcome r ≡ numberedArray (foundValues (now (file .entry)) f) (foundOrigins f) size words (dimList dims) ⌝ }
 {
-    let row = b.row;
-    match numbers_of(file, b, configuration_count(dims)) {
+    match numbers_of(file, f, configuration_count(dims)) {
         Numbered::Failed(e) => Described::Failed(e),
-        Numbered::As(numbers) => check_array(words, dims, numbers, row.size),
+        Numbered::As(numbers) => check_array(words, dims, numbers, origins_of(f), size),
     }
 }
 
@@ -151,11 +163,12 @@ pub fn describe_block(file: &[u8], b: Block) -> Described
     if row.kind != 1 {
         return refuse(16);
     }
-    match words_of(file, b) {
+    let fields = fields_of(file, b);
+    match words_of(file, fields) {
         Worded::Failed(e) => Described::Failed(e),
-        Worded::As(words) => match dims_of(file, b) {
+        Worded::As(words) => match dims_of(file, b, fields.dims) {
             Measured::Failed(e) => Described::Failed(e),
-            Measured::As(dims) => number_array(file, b, words, dims),
+            Measured::As(dims) => number_array(file, fields, row.size, words, dims),
         },
     }
 }

@@ -2,20 +2,21 @@
 // default; 18 has the field's number as position.
 use super::ranges::Ranged;
 use super::ranges::number_up_to;
-use keyword::Block;
 use keyword::Number;
+use keyword::Traced;
 use keyword::Value;
-use keyword::lookup::look_up;
+use origins::Fields;
 use scan::Error;
 use text::number::Whole;
 use text::number::whole_number;
 ghost use mathlib.Core.Path.{_≡_};
 ghost use lib.IntN.{pos};
-ghost use Rattle.scan.specs.Byte.{ascii};
 ghost use Rattle.keyword.specs.Answers.{numberOutcome};
+ghost use Rattle.keyword.specs.Viewing.{valueBytes};
+ghost use Rattle.origins.specs.Fields.{foundValues};
 ghost use Rattle.description.specs.Answers.{rangedOutcome, numberedOutcome};
 ghost use Rattle.description.specs.Fields.{rangeField, wholeField};
-ghost use Rattle.description.specs.Parts.{fieldsOf, numbersOf};
+ghost use Rattle.description.specs.Parts.{numbersFrom};
 
 // The numbers of fields 5 to 7.
 pub struct Numbers {
@@ -31,19 +32,21 @@ pub enum Numbered {
 }
 
 // A field that is a number from 1 to `most`, by default 1.
-fn range_field(file: &[u8], b: Block, key: &[u8], field: usize, most: u32) -> Ranged
-    ensures { λ r. ⌜ rangedOutcome r ≡ rangeField field most 1 (fieldsOf (now (file .entry)) b (now (key .entry))) ⌝ }
+fn range_field(file: &[u8], f: Traced, field: usize, most: u32) -> Ranged
+    ensures { λ r. ⌜ rangedOutcome r ≡ rangeField field most 1 (valueBytes (now (file .entry)) (f .value)) ⌝ }
 {
-    match look_up(file, b, key) {
+    let value = f.value;
+    match value {
         Value::Missing => Ranged::Value(1),
         Value::At(p) => number_up_to(scan::part(file, p), field, most),
     }
 }
 
-fn value_offset(file: &[u8], b: Block) -> Number
-    ensures { λ r. ⌜ numberOutcome r ≡ wholeField 7 (pos 0) (fieldsOf (now (file .entry)) b (ascii "DataValueOffset")) ⌝ }
+fn value_offset(file: &[u8], f: Traced) -> Number
+    ensures { λ r. ⌜ numberOutcome r ≡ wholeField 7 (pos 0) (valueBytes (now (file .entry)) (f .value)) ⌝ }
 {
-    match look_up(file, b, b"DataValueOffset") {
+    let value = f.value;
+    match value {
         Value::Missing => Number::Value(0),
         Value::At(p) => match whole_number(scan::part(file, p)) {
             Whole::Number(z) => Number::Value(z),
@@ -56,14 +59,14 @@ fn value_offset(file: &[u8], b: Block) -> Number
 }
 
 // Fields 5 to 7, where there are `most` configurations: 18 at 5, 6 or 7.
-pub fn numbers_of(file: &[u8], b: Block, most: u32) -> Numbered
-    ensures { λ r. ⌜ numberedOutcome r ≡ numbersOf (fieldsOf (now (file .entry)) b) most ⌝ }
+pub fn numbers_of(file: &[u8], f: Fields, most: u32) -> Numbered
+    ensures { λ r. ⌜ numberedOutcome r ≡ numbersFrom (foundValues (now (file .entry)) f) most ⌝ }
 {
-    match range_field(file, b, b"DataRasterConfiguration", 5, most) {
+    match range_field(file, f.configuration, 5, most) {
         Ranged::Failed(e) => Numbered::Failed(e),
-        Ranged::Value(c) => match range_field(file, b, b"RasterOrientation", 6, most) {
+        Ranged::Value(c) => match range_field(file, f.orientation, 6, most) {
             Ranged::Failed(e) => Numbered::Failed(e),
-            Ranged::Value(o) => match value_offset(file, b) {
+            Ranged::Value(o) => match value_offset(file, f.offset) {
                 Number::Failed(e) => Numbered::Failed(e),
                 Number::Value(z) => Numbered::As(Numbers {
                     configuration: c,

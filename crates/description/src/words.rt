@@ -4,18 +4,18 @@ use super::codes::Code;
 use super::codes::compression_code;
 use super::codes::order_code;
 use super::codes::type_code;
-use keyword::Block;
+use keyword::Traced;
 use keyword::Value;
-use keyword::lookup::look_up;
+use origins::Fields;
 use scan::Error;
 ghost use mathlib.Core.Path.{_≡_};
-ghost use Rattle.scan.specs.Byte.{ascii};
 ghost use Rattle.scan.specs.Outcome.{present};
+ghost use Rattle.keyword.specs.Viewing.{valueBytes};
+ghost use Rattle.origins.specs.Fields.{foundValues};
 ghost use Rattle.raster.specs.Types.{typeWords, orderWords, compressionWords};
 ghost use Rattle.description.specs.Answers.{codeOption, codedOutcome, wordedOutcome};
 ghost use Rattle.description.specs.Describe.{wordsOf};
 ghost use Rattle.description.specs.Fields.{wordField};
-ghost use Rattle.description.specs.Parts.{fieldsOf};
 
 // The code of a field's word.
 pub enum Coded {
@@ -49,42 +49,45 @@ fn known(code: Code, field: usize) -> Coded
     }
 }
 
-fn data_type(file: &[u8], b: Block) -> Coded
-    ensures { λ r. ⌜ codedOutcome r ≡ wordField 1 typeWords 7 (fieldsOf (now (file .entry)) b (ascii "DataType")) ⌝ }
+fn data_type(file: &[u8], f: Traced) -> Coded
+    ensures { λ r. ⌜ codedOutcome r ≡ wordField 1 typeWords 7 (valueBytes (now (file .entry)) (f .value)) ⌝ }
 {
-    match look_up(file, b, b"DataType") {
+    let value = f.value;
+    match value {
         Value::Missing => Coded::As(7),
         Value::At(p) => known(type_code(scan::part(file, p)), 1),
     }
 }
 
-fn byte_order(file: &[u8], b: Block) -> Coded
-    ensures { λ r. ⌜ codedOutcome r ≡ wordField 2 orderWords 1 (fieldsOf (now (file .entry)) b (ascii "ByteOrder")) ⌝ }
+fn byte_order(file: &[u8], f: Traced) -> Coded
+    ensures { λ r. ⌜ codedOutcome r ≡ wordField 2 orderWords 1 (valueBytes (now (file .entry)) (f .value)) ⌝ }
 {
-    match look_up(file, b, b"ByteOrder") {
+    let value = f.value;
+    match value {
         Value::Missing => Coded::As(1),
         Value::At(p) => known(order_code(scan::part(file, p)), 2),
     }
 }
 
-fn compression(file: &[u8], b: Block) -> Coded
-    ensures { λ r. ⌜ codedOutcome r ≡ wordField 3 compressionWords 1 (fieldsOf (now (file .entry)) b (ascii "Compression")) ⌝ }
+fn compression(file: &[u8], f: Traced) -> Coded
+    ensures { λ r. ⌜ codedOutcome r ≡ wordField 3 compressionWords 1 (valueBytes (now (file .entry)) (f .value)) ⌝ }
 {
-    match look_up(file, b, b"Compression") {
+    let value = f.value;
+    match value {
         Value::Missing => Coded::As(1),
         Value::At(p) => known(compression_code(scan::part(file, p)), 3),
     }
 }
 
 // Fields 1 to 3: 17 at 1, 2 or 3.
-pub fn words_of(file: &[u8], b: Block) -> Worded
-    ensures { λ r. ⌜ wordedOutcome r ≡ wordsOf (fieldsOf (now (file .entry)) b) ⌝ }
+pub fn words_of(file: &[u8], f: Fields) -> Worded
+    ensures { λ r. ⌜ wordedOutcome r ≡ wordsOf (foundValues (now (file .entry)) f) ⌝ }
 {
-    match data_type(file, b) {
+    match data_type(file, f.datatype) {
         Coded::Failed(e) => Worded::Failed(e),
-        Coded::As(t) => match byte_order(file, b) {
+        Coded::As(t) => match byte_order(file, f.byteorder) {
             Coded::Failed(e) => Worded::Failed(e),
-            Coded::As(o) => match compression(file, b) {
+            Coded::As(o) => match compression(file, f.compression) {
                 Coded::Failed(e) => Worded::Failed(e),
                 Coded::As(c) => Worded::As(Words {
                     datatype: t,

@@ -9,9 +9,12 @@ use Rattle.lexical.specs.Whole.{IsWhole}
 use Rattle.header.specs.Entry.{Entry}
 use Rattle.blocks.specs.Values.{Absent}
 use Rattle.blocks.specs.declared.Row.{Row}
+use Rattle.keyword.specs.declared.Origin.{Origin}
+use Rattle.keyword.specs.declared.Origin.the-variants as origin
 use Rattle.description.specs.declared.Description.{Description}
 use Rattle.fields.specs.Field.{IsWord, WordIs, NumberIs, WholeIs, FieldHas, DimsFound, DimsAre, FieldsAre, TakesDefaults, TakesValues}
 use Rattle.fields.proofs.KeywordLaws.{one-keyword}
+use Rattle.fields.proofs.ReadLaws.{lacks-absent}
 
 -- ---- One field
 
@@ -62,7 +65,7 @@ module _ {s : List ℕ} {rows : List Row} {row : Row} where
         go (DimsAre.none-found m) q = absurd (m v h)
         go (DimsAre.some-found (DimsFound.found {v = w} k a low high rest)) q = rw (q, sym (one-field w v k h)) a
 
-    pub takes-defaults : TakesDefaults (λ name. Absent (FieldHas s rows row name)) d
+    pub takes-defaults : TakesDefaults (λ name o. Absent (FieldHas s rows row name)) d
     takes-defaults = record {
       datatype = word-default (f .datatype);
       byteorder = word-default (f .byteorder);
@@ -71,6 +74,18 @@ module _ {s : List ℕ} {rows : List Row} {row : Row} where
       configuration = number-default (f .configuration);
       orientation = number-default (f .orientation);
       offset = whole-default (f .offset);
+    }
+
+    -- No header in reach has a field whose origin is default.
+    pub assumes-defaults : TakesDefaults (λ name o. o ≡ origin.Default) d
+    assumes-defaults = record {
+      datatype = λ e. takes-defaults .datatype (lacks-absent .0 (f .origins .datatype .default .0 e));
+      byteorder = λ e. takes-defaults .byteorder (lacks-absent .0 (f .origins .byteorder .default .0 e));
+      compression = λ e. takes-defaults .compression (lacks-absent .0 (f .origins .compression .default .0 e));
+      dims = λ e. takes-defaults .dims (lacks-absent .0 (f .origins .dims .default .0 e));
+      configuration = λ e. takes-defaults .configuration (lacks-absent .0 (f .origins .configuration .default .0 e));
+      orientation = λ e. takes-defaults .orientation (lacks-absent .0 (f .origins .orientation .default .0 e));
+      offset = λ e. takes-defaults .offset (lacks-absent .0 (f .origins .offset .default .0 e));
     }
 
     pub takes-values : TakesValues (FieldHas s rows row) d
@@ -86,15 +101,16 @@ module _ {s : List ℕ} {rows : List Row} {row : Row} where
 
 -- ---- By other words for missing and found
 
-pub defaults-by : {M N : List ℕ → Type 0} {d : Description} → ((name : List ℕ) → M name → N name) → TakesDefaults N d → TakesDefaults M d
+pub defaults-by : {M N : List ℕ → Origin → Type 0} {d : Description} → ((name : List ℕ) (o : Origin) → M name o → N name o) → TakesDefaults N d
+    → TakesDefaults M d
 defaults-by f t = record {
-  datatype = λ m. t .datatype (f _ m);
-  byteorder = λ m. t .byteorder (f _ m);
-  compression = λ m. t .compression (f _ m);
-  dims = λ m. t .dims (f _ m);
-  configuration = λ m. t .configuration (f _ m);
-  orientation = λ m. t .orientation (f _ m);
-  offset = λ m. t .offset (f _ m);
+  datatype = λ m. t .datatype (f _ _ m);
+  byteorder = λ m. t .byteorder (f _ _ m);
+  compression = λ m. t .compression (f _ _ m);
+  dims = λ m. t .dims (f _ _ m);
+  configuration = λ m. t .configuration (f _ _ m);
+  orientation = λ m. t .orientation (f _ _ m);
+  offset = λ m. t .offset (f _ _ m);
 }
 
 pub values-by : {M N : List ℕ → List ℕ → Type 0} {d : Description} → ((name v : List ℕ) → M name v → N name v) → TakesValues N d → TakesValues M d

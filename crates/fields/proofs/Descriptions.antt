@@ -18,6 +18,9 @@ use Rattle.blocks.specs.Grammar.{Partition}
 use Rattle.blocks.specs.Limits.{fileLimit}
 use Rattle.blocks.specs.declared.Row.{Row}
 use Rattle.keyword.specs.Viewing.{valueIn}
+use Rattle.origins.specs.Fields.{valuesBy}
+use Rattle.origins.specs.Origins.{originsIn}
+use Rattle.origins.specs.declared.Origins.{Origins}
 use Rattle.raster.specs.Axis.{configurations}
 use Rattle.raster.specs.Position.{product}
 use Rattle.raster.specs.Types.{typeOf}
@@ -26,18 +29,21 @@ use Rattle.description.specs.Fields.{rangeField, wholeField}
 use Rattle.description.specs.declared.Description.{Description}
 use Rattle.description.proofs.DescribedLaws.{step-ok, check-ok, required, same-ok}
 use Rattle.fields.specs.Field.{FieldsAre, UnknownField}
+use Rattle.fields.specs.Origin.{OriginsAre}
 use Rattle.fields.proofs.DimLaws.{dims-say}
 use Rattle.fields.proofs.FieldLaws.{ReadsFields, number-says, whole-says}
 use Rattle.fields.proofs.KeywordLaws.{viewHere, view-is, view-missing, finds-keyword, one-keyword}
+use Rattle.fields.proofs.OriginLaws.{origins-are}
 use Rattle.fields.proofs.Spared.{step-spares, require-spares, range-spares, whole-spares, dims-spare}
 use Rattle.fields.proofs.UnknownLaws.{words-known, unknown-first}
 
 -- A block with the row, whose fields are read by `look`.
 module _ {s : List ℕ} {rows : List Row} {row : Row} {look : Values} (reads : ReadsFields s rows row look) where
-  fields-say : row .kind ≡ 1 → (size : ℕ) {d : Description} → described look size ≡ ok d → FieldsAre s rows row d
+  fields-say : row .kind ≡ 1 → {origins : Origins} → OriginsAre s rows row origins → (size : ℕ) {d : Description}
+      → described look origins size ≡ ok d → FieldsAre s rows row d
   unfolding described
-  fields-say kind size {d} e =
-      let p = step-ok (wordsOf look) _ d e in
+  fields-say kind {origins} from size {d} e =
+      let p = step-ok (wordsOf (valuesBy look)) _ d e in
       let q = step-ok (dimsOf look) _ d (p .2) in
       let most = configurations (length (q .0)) in
       let r = step-ok (rangeField 5 most 1 (look (ascii "DataRasterConfiguration"))) _ d (q .2) in
@@ -46,7 +52,7 @@ module _ {s : List ℕ} {rows : List Row} {row : Row} {look : Values} (reads : R
       let type = typeOf (p .0 .datatype) in
       let v = check-ok (require (leb (product (q .0) * type .width) size) 20 0) _ d (u .2) in
       let w = check-ok (require (offsetAllowed (type .class) (u .0)) 21 0)
-      (ok (descriptionWith (p .0) (q .0) (r .0) (t .0) (u .0))) d (v .2) in
+      (ok (descriptionWith (p .0) (q .0) (r .0) (t .0) (u .0) origins)) d (v .2) in
       let words = words-known reads (p .1) in
       subst (FieldsAre s rows row) (same-ok (w .2))
       (record {
@@ -63,11 +69,12 @@ module _ {s : List ℕ} {rows : List Row} {row : Row} {look : Values} (reads : R
         configuration = number-says (reads (ascii "DataRasterConfiguration")) 5 most 1 (r .1);
         orientation = number-says (reads (ascii "RasterOrientation")) 6 most 1 (t .1);
         offset = whole-says (reads (ascii "DataValueOffset")) 7 (pos 0) (u .1);
+        origins = from;
       })
 
-  unknown-says : (size : ℕ) {k : ℕ} → (described look size ≡ refused 17 k) ↔ UnknownField s rows row k
+  unknown-says : (origins : Origins) (size : ℕ) {k : ℕ} → (described look origins size ≡ refused 17 k) ↔ UnknownField s rows row k
   unfolding described
-  unknown-says size =
+  unknown-says origins size =
       unknown-first reads _
       (λ words. step-spares (dimsOf look) _ (dims-spare look)
       (λ dims.
@@ -103,14 +110,16 @@ module _ {s : List ℕ} {rows : List Row} (small : length s ≤ fileLimit) (p : 
     unfolding descriptionIn
     described-fields {d} e =
         let q = check-ok (require (eqb (row .kind) 1) 16 0) _ d (sym description-by ∙ e) in
-        fields-say reads-field (eqb-true (row .kind) 1 (required (eqb (row .kind) 1) 16 0 (q .0) (q .1))) (row .size) (q .2)
+        fields-say reads-field (eqb-true (row .kind) 1 (required (eqb (row .kind) 1) 16 0 (q .0) (q .1)))
+        (origins-are small p b at) (row .size) (q .2)
 
     pub unknown-word : row .kind ≡ 1 → {k : ℕ} → (descriptionOf s b ≡ refused 17 k) ↔ UnknownField s rows row k
     unfolding descriptionIn
     unknown-word kind {k} =
-        let array = described (valueIn (viewHere small p b at)) (row .size) in
+        let view = viewHere small p b at in
+        let array = described (valueIn view) (originsIn view) (row .size) in
         let is : descriptionOf s b ≡ array = description-by ∙ ap (λ (t : Bool). require t 16 0 >> array) (eq-eqb (row .kind) 1 kind) in
-        rw is (unknown-says reads-field (row .size))
+        rw is (unknown-says reads-field (originsIn view) (row .size))
 
     -- An array asked of the general block.
     pub general-refused : row .kind ≢ 1 → descriptionOf s b ≡ refused 16 0

@@ -27,7 +27,7 @@ use Rattle.fields.proofs.Present.{present-some, present-none}
 
 -- ---- Whether the general header is in reach
 
-abbrev shared : List Row → Row → Bool
+abbrev pub shared : List Row → Row → Bool
 shared rows row = eqb (row .kind) 1 && isGeneral (getElem? rows 0)
 
 general-decides : (o : Option Row) → Decides ((first : Row) × (o ≡ some first) × (first .kind ≡ 0)) (isGeneral o)
@@ -36,7 +36,7 @@ general-decides (some row) =
     decides-by (λ e. (row, refl, e)) (λ h. ap (λ (r : Row). r .kind) (Option·some-injective row (h .0) (h .1)) ∙ h .2)
     (eqb-decides (row .kind) 0)
 
-inherits-decides : (rows : List Row) (row : Row) (key : List ℕ) → Decides (Inherits rows row key) (shared rows row && not (isEdfKey key))
+pub inherits-decides : (rows : List Row) (row : Row) (key : List ℕ) → Decides (Inherits rows row key) (shared rows row && not (isEdfKey key))
 inherits-decides rows row key =
     decides-by
     (λ h. let g = h .0 .1 in record { data-block = h .0 .0; first = g .0; first-is = g .1; general = g .2; no-edf-key = h .1 })
@@ -44,7 +44,7 @@ inherits-decides rows row key =
     (decides-and (decides-and (eqb-decides (row .kind) 1) (general-decides (getElem? rows 0))) (decides-not (edf-decides key)))
 
 -- The general entries that are looked through.
-in-reach : (edf share : Bool) (key : List ℕ) (es : List Entry)
+pub in-reach : (edf share : Bool) (key : List ℕ) (es : List Entry)
     → cond edf none (lookup key (cond share es [])) ≡ cond (share && not edf) (lookup key es) none
 unfolding lookup
 in-reach true true key es = refl
@@ -55,7 +55,7 @@ in-reach false false key es = refl
 -- ---- By what is found in the two headers
 
 module _ {s : List ℕ} {rows : List Row} {row : Row} {sought : List ℕ} where
-  lacks : HeaderLacks s (row .start) (keyOf sought) → (Inherits rows row (keyOf sought) → HeaderLacks s 0 (keyOf sought))
+  pub lacks : HeaderLacks s (row .start) (keyOf sought) → (Inherits rows row (keyOf sought) → HeaderLacks s 0 (keyOf sought))
       → LacksKeyword s rows row sought
   lacks n m e (HasKeyword.own x) = n e x
   lacks n m e (HasKeyword.general k i x) = m i e x

@@ -4,6 +4,7 @@ pub mod DimLaws
 pub mod FieldLaws
 pub mod HeaderLaws
 pub mod KeywordLaws
+pub mod OriginLaws
 pub mod Present
 pub mod ReadLaws
 pub mod Spared

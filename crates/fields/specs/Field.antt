@@ -10,11 +10,13 @@ use Rattle.lexical.specs.Whole.{IsWhole}
 use Rattle.header.specs.Entry.{Entry}
 use Rattle.blocks.specs.Values.{Absent}
 use Rattle.blocks.specs.declared.Row.{Row}
+use Rattle.keyword.specs.declared.Origin.{Origin}
 use Rattle.raster.specs.Axis.{configurations}
 use Rattle.raster.specs.Types.{typeWords, orderWords, compressionWords}
 use Rattle.description.specs.Limits.{dimLimit}
 use Rattle.description.specs.declared.Description.{Description}
 use Rattle.fields.specs.Keyword.{HasKeyword}
+use Rattle.fields.specs.Origin.{OriginsAre}
 
 -- ---- One field. `Has v`: the field is there, with the value v.
 
@@ -81,7 +83,7 @@ module _ (s : List ℕ) (rows : List Row) (row : Row) where
     some-found : {d : ℕ} {ds : List ℕ} → DimsFound (ascii "Dim_1" ∷ ascii "Dim_2" ∷ ascii "Dim_3" ∷ ascii "Dim_4" ∷ []) (d ∷ ds)
         → DimsAre (d ∷ ds)
 
-  -- A description whose fields are those of the block, or their defaults.
+  -- A description whose fields are those of the block, or their defaults, and whose origins say which.
   pub record FieldsAre (d : Description) : Type 0 where
     pub data-block : row .kind ≡ 1
     pub datatype : TypeIs (d .datatype)
@@ -96,18 +98,19 @@ module _ (s : List ℕ) (rows : List Row) (row : Row) where
     pub configuration : NumberIs (FieldHas (ascii "DataRasterConfiguration")) (configurations (d .n)) 1 (d .configuration)
     pub orientation : NumberIs (FieldHas (ascii "RasterOrientation")) (configurations (d .n)) 1 (d .orientation)
     pub offset : WholeIs (FieldHas (ascii "DataValueOffset")) (pos 0) (d .offset)
+    pub origins : OriginsAre s rows row (d .origins)
 
 -- ---- A description, field by field
 
--- A field that is missing takes its default. `Missing name`: there is no field of the name.
-pub record TakesDefaults (Missing : List ℕ → Type 0) (d : Description) : Type 0 where
-  pub datatype : Missing (ascii "DataType") → d .datatype ≡ 7
-  pub byteorder : Missing (ascii "ByteOrder") → d .byteorder ≡ 1
-  pub compression : Missing (ascii "Compression") → d .compression ≡ 1
-  pub dims : Missing (ascii "Dim_1") → (d .n ≡ 1) × (d .dim1 ≡ 0)
-  pub configuration : Missing (ascii "DataRasterConfiguration") → d .configuration ≡ 1
-  pub orientation : Missing (ascii "RasterOrientation") → d .orientation ≡ 1
-  pub offset : Missing (ascii "DataValueOffset") → d .offset ≡ pos 0
+-- A field that is missing takes its default. `Missing name o`: there is no field of the name, whose origin is o.
+pub record TakesDefaults (Missing : List ℕ → Origin → Type 0) (d : Description) : Type 0 where
+  pub datatype : Missing (ascii "DataType") (d .origins .datatype) → d .datatype ≡ 7
+  pub byteorder : Missing (ascii "ByteOrder") (d .origins .byteorder) → d .byteorder ≡ 1
+  pub compression : Missing (ascii "Compression") (d .origins .compression) → d .compression ≡ 1
+  pub dims : Missing (ascii "Dim_1") (d .origins .dims) → (d .n ≡ 1) × (d .dim1 ≡ 0)
+  pub configuration : Missing (ascii "DataRasterConfiguration") (d .origins .configuration) → d .configuration ≡ 1
+  pub orientation : Missing (ascii "RasterOrientation") (d .origins .orientation) → d .orientation ≡ 1
+  pub offset : Missing (ascii "DataValueOffset") (d .origins .offset) → d .offset ≡ pos 0
 
 -- A field that is found is what stands there. `Found name v`: there is one, with the value v.
 pub record TakesValues (Found : List ℕ → List ℕ → Type 0) (d : Description) : Type 0 where

@@ -1,2 +1,3 @@
 pub mod Field
 pub mod Keyword
+pub mod Origin

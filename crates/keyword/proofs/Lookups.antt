@@ -22,14 +22,23 @@ use Rattle.header.proofs.Leading.{leading-end, end-answer}
 use Rattle.header.proofs.LookupLaws.{lookup-first, first-stands, span-ends, value-at-span, part-of-prefix}
 use Rattle.blocks.specs.Counting.{isEdfKey}
 use Rattle.keyword.specs.Keyword.{lookupIn}
-use Rattle.keyword.specs.Viewing.{headerEntries, viewAt, valueSpan, valueBytes}
+use Rattle.keyword.specs.Origin.{originIn}
+use Rattle.keyword.specs.Viewing.{headerEntries, viewAt, valueSpan, valueBytes, spanIn, valueIn}
 use Rattle.keyword.specs.declared.Block.{Block}
+use Rattle.keyword.specs.declared.Origin.{Origin}
+use Rattle.keyword.specs.declared.Origin.the-variants as origin
 use Rattle.keyword.specs.declared.Value.{Value}
 use Rattle.keyword.specs.declared.Value.the-variants.{At, Missing}
 
 -- An answer is the span and the value of what was found.
 abbrev pub Tells : List ℕ → Value → Option Entry → Type 0
 Tells s r o = (valueSpan r ≡ Option·map (λ (e : Entry). e .span) o) × (valueBytes s r ≡ Option·map (λ (e : Entry). e .value) o)
+
+-- Nothing was found if the answer is that it is missing.
+missing-none : (s : List ℕ) (r : Value) (o : Option Entry) → Tells s r o → r ≡ Missing → o ≡ none
+missing-none s r o h a =
+    let t : Tells s Missing o = rw a at h in
+    by-option o (λ e. e) (λ x e. absurd (none-some (rw e at (t .0))))
 
 -- ---- In one header
 
@@ -78,35 +87,50 @@ module _ (s k : List ℕ) (h : Header) where
 -- ---- In a block
 
 module _ (s : List ℕ) (b : Block) (name : List ℕ) where
-  abbrev own : Option Entry
-  own = lookup (keyOf name) (headerEntries s (b .own))
+  abbrev in-header : Header → Option Entry
+  in-header h = lookup (keyOf name) (headerEntries s h)
 
-  module _ (r : Value) (h : Tells s r own) where
+  -- A value and an origin are those of the keyword in the block.
+  abbrev pub Traces : Value → Origin → Type 0
+  Traces r o =
+      (valueSpan r ≡ spanIn (viewAt s b) name) × ((valueBytes s r ≡ valueIn (viewAt s b) name) × (o ≡ originIn (viewAt s b) name))
+
+  module _ {r : Value} (own : Tells s r (in-header (b .own))) where
     -- The own header comes first.
-    pub own-found : {p : Span} → r ≡ At p → Tells s (At p) (lookupIn (viewAt s b) name)
-    unfolding lookupIn viewAt
-    own-found {p} a =
-        let t : Tells s (At p) own = rw a at h in
-        by-option own
+    pub in-own : {p : Span} → r ≡ At p → Traces (At p) origin.Own
+    unfolding lookupIn originIn viewAt
+    in-own {p} a =
+        let t : Tells s (At p) (in-header (b .own)) = rw a at own in
+        by-option (in-header (b .own))
         (λ e. absurd (none-some (sym (rw e at (t .0)))))
-        (λ x e. rw e (rw e at t))
+        (λ x e. let u = rw e at t in rw e (u .0, (u .1, refl)))
 
     module _ (a : r ≡ Missing) where
-      own-none : own ≡ none
-      own-none =
-          let t : Tells s Missing own = rw a at h in
-          by-option own (λ e. e) (λ x e. absurd (none-some (rw e at (t .0))))
+      not-own : in-header (b .own) ≡ none
+      not-own = missing-none s r (in-header (b .own)) own a
 
-      pub none-general : b .inherits ≡ false → Tells s Missing (lookupIn (viewAt s b) name)
-      unfolding lookupIn viewAt lookup
-      none-general i =
-          by-test (isEdfKey (keyOf name)) (λ k. rw (own-none, i, k) (refl, refl)) (λ k. rw (own-none, i, k) (refl, refl))
+      pub not-shared : b .inherits ≡ false → Traces Missing origin.Default
+      unfolding lookupIn originIn viewAt lookup
+      not-shared i =
+          by-test (isEdfKey (keyOf name)) (λ k. rw (not-own, i, k) (refl, (refl, refl))) (λ k. rw (not-own, i, k) (refl, (refl, refl)))
 
-      pub none-edf : isEdfKey (keyOf name) ≡ true → Tells s Missing (lookupIn (viewAt s b) name)
-      unfolding lookupIn viewAt
-      none-edf k = rw (own-none, k) (refl, refl)
+      pub edf-key : isEdfKey (keyOf name) ≡ true → Traces Missing origin.Default
+      unfolding lookupIn originIn viewAt
+      edf-key k = rw (not-own, k) (refl, (refl, refl))
 
-      pub in-general : b .inherits ≡ true → isEdfKey (keyOf name) ≡ false → (q : Value)
-          → Tells s q (lookup (keyOf name) (headerEntries s (b .general))) → Tells s q (lookupIn (viewAt s b) name)
-      unfolding lookupIn viewAt
-      in-general i k q g = rw (own-none, i, k) g
+      module _ (i : b .inherits ≡ true) (k : isEdfKey (keyOf name) ≡ false) {q : Value} (general : Tells s q (in-header (b .general))) where
+        pub in-general : {p : Span} → q ≡ At p → Traces (At p) origin.General
+        unfolding lookupIn originIn viewAt
+        in-general {p} c =
+            let t : Tells s (At p) (in-header (b .general)) = rw c at general in
+            by-option (in-header (b .general))
+            (λ e. absurd (none-some (sym (rw e at (t .0)))))
+            (λ x e. let u = rw e at t in rw (not-own, i, k, e) (u .0, (u .1, refl)))
+
+        pub in-neither : q ≡ Missing → Traces Missing origin.Default
+        unfolding lookupIn originIn viewAt
+        in-neither c = rw (not-own, i, k, missing-none s q (in-header (b .general)) general c) (refl, (refl, refl))
+
+  -- The same value and origin in other words.
+  pub traced-by : {r q : Value} {o u : Origin} → (r ≡ q) × (o ≡ u) → Traces q u → Traces r o
+  traced-by e h = rw (e .0, e .1) h

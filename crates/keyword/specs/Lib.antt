@@ -1,3 +1,4 @@
 pub mod Answers
 pub mod Keyword
+pub mod Origin
 pub mod Viewing

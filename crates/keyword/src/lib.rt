@@ -29,6 +29,20 @@ pub enum Value {
     Missing,
 }
 
+// Where the value of a keyword came from: the block's own header, the general header, or, where no header in reach has the keyword, the
+// default.
+pub enum Origin {
+    Own,
+    General,
+    Default,
+}
+
+// A keyword of a block: its value, and where that came from.
+pub struct Traced {
+    pub value: Value,
+    pub origin: Origin,
+}
+
 // The answer of looking a keyword up: where its value stands in the file.
 pub enum Located {
     At(Span),

@@ -1,5 +1,7 @@
 // Looking a key up in the headers of a block.
 use super::Block;
+use super::Origin;
+use super::Traced;
 use super::Value;
 use header::Header;
 use header::lookup::Sought;
@@ -9,7 +11,10 @@ use reading::keys::is_edf_key;
 ghost use mathlib.Core.Path.{_≡_};
 ghost use lib.ListN.{take};
 ghost use Rattle.text.specs.Key.{keyOf};
+ghost use Rattle.keyword.specs.Origin.{originIn};
 ghost use Rattle.keyword.specs.Viewing.{headerEntries, viewAt, valueSpan, valueBytes, entrySpan, entryValue, spanIn, valueIn};
+ghost use Rattle.keyword.specs.declared.Origin.the-variants as origin;
+ghost use Rattle.keyword.specs.declared.Value.the-variants as value;
 
 // The bytes up to an offset; all of them where it is past the end.
 fn up_to(s: &[u8], end: usize) -> &[u8]
@@ -38,21 +43,51 @@ fn value_in(file: &[u8], h: Header, key: &[u8]) -> Value
     }
 }
 
-// The value of a key in a block: in its own header, then, but for EDF_ keys, in the general header.
+// A key that no header in reach has.
+fn nowhere() -> Traced
+    ensures { λ r. ⌜ (r .value ≡ value.Missing) × (r .origin ≡ origin.Default) ⌝ }
+{
+    Traced {
+        value: Value::Missing,
+        origin: Origin::Default,
+    }
+}
+
+// A key in a block: its value in the own header, then, but for EDF_ keys, in the general header; and which of them has it.
+pub fn trace(file: &[u8], b: Block, key: &[u8]) -> Traced
+    ensures { λ r. ⌜ valueSpan (r .value) ≡ spanIn (viewAt (now (file .entry)) b) (now (key .entry)) ⌝ }
+    ensures { λ r. ⌜ valueBytes (now (file .entry)) (r .value) ≡ valueIn (viewAt (now (file .entry)) b) (now (key .entry)) ⌝ }
+    ensures { λ r. ⌜ r .origin ≡ originIn (viewAt (now (file .entry)) b) (now (key .entry)) ⌝ }
+{
+    match value_in(file, b.own, key) {
+        Value::At(p) => Traced {
+            value: Value::At(p),
+            origin: Origin::Own,
+        },
+        Value::Missing => {
+            if !b.inherits {
+                return nowhere();
+            }
+            if is_edf_key(key) {
+                return nowhere();
+            }
+            match value_in(file, b.general, key) {
+                Value::At(p) => Traced {
+                    value: Value::At(p),
+                    origin: Origin::General,
+                },
+                Value::Missing => nowhere(),
+            }
+        }
+    }
+}
+
+// The value of a key in a block.
 pub fn look_up(file: &[u8], b: Block, key: &[u8]) -> Value
     ensures { λ r. ⌜ valueSpan r ≡ spanIn (viewAt (now (file .entry)) b) (now (key .entry)) ⌝ }
     ensures { λ r. ⌜ valueBytes (now (file .entry)) r ≡ valueIn (viewAt (now (file .entry)) b) (now (key .entry)) ⌝ }
 {
-    match value_in(file, b.own, key) {
-        Value::At(p) => Value::At(p),
-        Value::Missing => {
-            if !b.inherits {
-                return Value::Missing;
-            }
-            if is_edf_key(key) {
-                return Value::Missing;
-            }
-            value_in(file, b.general, key)
-        }
-    }
+    let f = trace(file, b, key);
+    let value = f.value;
+    value
 }

@@ -6,6 +6,7 @@ use Prim.Native.Nat.{ℕ, _≤_, _<_}
 use native.Mathlib.Omega.{arith}
 use borrow.Author.Tests.{le-leb, lt-leb}
 use lib.Dec.{leb}
+use lib.IntN.{pos}
 use lib.ListN.{length, take}
 use lib.Seq.{length-take-le}
 use Rattle.scan.specs.Outcome.{Outcome, ok, failed, refused}
@@ -18,6 +19,10 @@ use Rattle.blocks.specs.declared.Row.{Row}
 use Rattle.opening.specs.Core.{Few, told, rowsIn, Opens, Refuses}
 use Rattle.opening.specs.Table.{rowsOf, Plans}
 use Rattle.opening.specs.declared.Opening.{Opening}
+
+-- A row of zeros: what stands past the end of a list.
+abbrev pub no-row : Row
+no-row = record { start = 0; header = 0; size = 0; kind = 0; sequence = pos 0; instance = 0; memory = pos 0 }
 
 -- ---- 1, then 2, then the blocks
 

@@ -3,7 +3,7 @@ use mathlib.Core.Path.{_≡_, refl, sym, ap, _∙_}
 use mathlib.Core.Bool.{true}
 use mathlib.Core.List.{List, [], _∷_, map}
 use mathlib.Core.Option.{Option, none, some, Option·map}
-use Prim.Native.Nat.{ℕ, zero, suc, _*_, _≤_}
+use Prim.Native.Nat.{ℕ, _*_, _≤_}
 use native.Mathlib.Omega.{arith}
 use borrow.Author.Tests.{le-leb}
 use lib.IntN.{pos}
@@ -25,9 +25,9 @@ use Rattle.keyword.specs.Viewing.{valueIn}
 use Rattle.raster.specs.Axis.{configurations}
 use Rattle.raster.specs.Position.{product}
 use Rattle.raster.specs.Types.{Class, unsigned, signed, float}
+use Rattle.origins.specs.Fields.{valuesBy}
 use Rattle.description.specs.Describe.{Values, dimsOf, wordsOf, offsetAllowed, described, descriptionIn, descriptionOf}
 use Rattle.description.specs.Fields.{wordField, rangeField, wholeField, foundFirst, dimsFrom}
-use Rattle.description.specs.declared.Description.{Description}
 use Rattle.description.proofs.DimLaws.{dimsBy}
 use Rattle.frame.specs.File.{frameDims, frameType, storedPixels, fileData, keywordsOf}
 use Rattle.rendering.specs.Render.{padding, filled}
@@ -37,7 +37,9 @@ use Rattle.frame.specs.declared.Frame.{Frame}
 use Rattle.frame.proofs.Allowed.{Within, Writes, dims-length, few-configurations}
 use Rattle.frame.proofs.PixelLengths.{stored-length}
 use Rattle.frame.proofs.Codes.{type-coded, order-coded}
+use Rattle.readback.specs.Described.{writtenOrigins, descriptionFor}
 use Rattle.readback.proofs.Keywords.{Dims, one, two, three}
+use Rattle.readback.proofs.Origins.{written-origins}
 use Rattle.readback.proofs.Viewed.{Looks, viewWith, dimText, written-view, written-looks}
 use Rattle.readback.proofs.Written.{Fits, valuesOf, rowOf, dims-shape}
 
@@ -75,22 +77,6 @@ enough-data f pixels = omega (arith, stored-length f pixels, length-append (stor
 
 -- ---- The description
 
--- "the first n Dims with 1 past n", no orientation and no offset.
-abbrev pub descriptionFor : Frame → Description
-descriptionFor f =
-    record {
-      datatype = f .datatype;
-      byteorder = f .byteorder;
-      compression = 1;
-      n = f .n;
-      dim1 = getD (frameDims f) 0 1;
-      dim2 = getD (frameDims f) 1 1;
-      dim3 = getD (frameDims f) 2 1;
-      configuration = f .configuration;
-      orientation = 1;
-      offset = pos 0;
-    }
-
 module _ {f : Frame} {title pixels s : List ℕ} (w : Writes f title pixels s) where
   abbrev look : Values
   look = valueIn (viewWith (rowOf f title pixels) (keywordsOf f title pixels))
@@ -98,7 +84,7 @@ module _ {f : Frame} {title pixels s : List ℕ} (w : Writes f title pixels s) w
   looked : Looks look (valuesOf f pixels) (frameDims f) title
   looked = written-looks w
 
-  words-are : wordsOf look ≡ ok (record { datatype = f .datatype; byteorder = f .byteorder; compression = 1 })
+  words-are : wordsOf (valuesBy look) ≡ ok (record { datatype = f .datatype; byteorder = f .byteorder; compression = 1 })
   unfolding wordsOf wordField
   words-are =
       rw (looked .type, type-coded (f .datatype) (w .allowed .datatype) .code-is, looked .order, order-coded (f .byteorder) (w .allowed .byteorder) .code-is, looked .compression)
@@ -129,7 +115,7 @@ module _ {f : Frame} {title pixels s : List ℕ} (w : Writes f title pixels s) w
   unfolding wholeField
   offset-is = rw (looked .offset)
 
-  described-is : described look (length (fileData f pixels)) ≡ ok (descriptionFor f)
+  described-is : described look writtenOrigins (length (fileData f pixels)) ≡ ok (descriptionFor f)
   unfolding described
   described-is =
       let e : length (frameDims f) ≡ f .n = dims-length (w .allowed) in
@@ -153,11 +139,12 @@ module _ {f : Frame} {title pixels s : List ℕ} (w : Writes f title pixels s) w
         configuration = f .configuration;
         orientation = 1;
         offset = pos 0;
+        origins = writtenOrigins;
       }))
 
   pub description-in : descriptionIn (viewWith (rowOf f title pixels) (keywordsOf f title pixels)) ≡ ok (descriptionFor f)
   unfolding descriptionIn
-  description-in = described-is
+  description-in = rw (written-origins w) described-is
 
   module _ (fits : Fits f) where
     pub description-is : descriptionOf s 0 ≡ ok (descriptionFor f)

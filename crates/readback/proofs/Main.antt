@@ -22,7 +22,8 @@ use Rattle.frame.specs.File.{frameDims, frameType, fileData, keywordsOf, fileOf
 use Rattle.rendering.specs.Render.{Keyword, renderedHeader}
 use Rattle.frame.specs.declared.Frame.{Frame}
 use Rattle.frame.proofs.Allowed.{Writes, written-says}
-use Rattle.readback.proofs.Described.{descriptionFor, description-in, description-is, title-is}
+use Rattle.readback.specs.Described.{descriptionFor}
+use Rattle.readback.proofs.Described.{description-in, description-is, title-is}
 use Rattle.readback.proofs.Pixels.{Inside, positionIn, pixel, pixel-is, delivered-is}
 use Rattle.rendering.proofs.Rendered.{MayRender, ParsesBack, parses-back}
 use Rattle.readback.proofs.Viewed.{viewWith, written-view}

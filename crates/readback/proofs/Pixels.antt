@@ -23,7 +23,7 @@ use Rattle.frame.proofs.Allowed.{Within, Writes, dims-length}
 use Rattle.frame.proofs.Codes.{type-wide}
 use Rattle.frame.proofs.PixelLengths.{pixel-length}
 use Rattle.frame.proofs.ShapeLaws.{below}
-use Rattle.readback.proofs.Described.{descriptionFor}
+use Rattle.readback.specs.Described.{descriptionFor}
 use Rattle.readback.proofs.Keywords.{Dims, one, two, three}
 use Rattle.readback.proofs.Written.{dims-shape}
 

@@ -60,14 +60,14 @@ pub record Looks (look : array.Values) (v : Values) (ds t : List ℕ) : Type 0 w
   pub title : look (ascii "Title") ≡ some (escapedBody t)
 
 -- The keywords of the Dims, with their keys written out.
-abbrev dimNamed : {ds : List ℕ} → Dims ds → List Keyword
+abbrev pub dimNamed : {ds : List ℕ} → Dims ds → List Keyword
 dimNamed (one a) = record { key = ascii "Dim_1"; value = decimal (pos a) } ∷ []
 dimNamed (two a b) = record { key = ascii "Dim_1"; value = decimal (pos a) } ∷ record { key = ascii "Dim_2"; value = decimal (pos b) } ∷ []
 dimNamed (three a b c) =
     record { key = ascii "Dim_1"; value = decimal (pos a) } ∷ record { key = ascii "Dim_2"; value = decimal (pos b) }
     ∷ record { key = ascii "Dim_3"; value = decimal (pos c) } ∷ []
 
-dim-keywords : {ds : List ℕ} (d : Dims ds) → dimKeywords 1 ds ≡ dimNamed d
+pub dim-keywords : {ds : List ℕ} (d : Dims ds) → dimKeywords 1 ds ≡ dimNamed d
 unfolding dimKeywords decimal digitsOf
 dim-keywords (one a) = refl
 dim-keywords (two a b) = refl

@@ -33,7 +33,7 @@ returns c =
     let e = w .before in
     let a = e .before .args in
     c .refuse .ensures
-    ∙ too-short (a .words) (a .dims) (a .numbers) (a .size) (e .extents-of .ensures) (w .width-of .ensures) (n .byte-count .ensures)
+    ∙ too-short (a .words) (a .dims) (a .numbers) (a .origins) (a .size) (e .extents-of .ensures) (w .width-of .ensures) (n .byte-count .ensures)
     (c .before .if1 .taken)
 
 offset-allowed-requires : tie.Need-offset-allowed-requires
@@ -54,7 +54,7 @@ returns-2 c =
     let s = e .before in
     let a = s .args in
     let held = toZ-ofZ w64 (a .numbers .offset) (offset-fits s) in
-    array-described (a .words) (a .dims) (a .numbers) (a .size) (e .extents-of .ensures) (w .width-of .ensures) (n .byte-count .ensures)
+    array-described (a .words) (a .dims) (a .numbers) (a .origins) (a .size) (e .extents-of .ensures) (w .width-of .ensures) (n .byte-count .ensures)
     (t .before .before .if1 .left) (sym (ap (offsetAllowed _) held) ∙ sym (t .offset-allowed .ensures) ∙ c .before .if2 .taken) held
 
 returns-3 : tie.Need-returns-3
@@ -66,7 +66,7 @@ returns-3 c =
     let s = e .before in
     let a = s .args in
     c .refuse2 .ensures
-    ∙ offset-refused (a .words) (a .dims) (a .numbers) (a .size) (e .extents-of .ensures) (w .width-of .ensures) (n .byte-count .ensures)
+    ∙ offset-refused (a .words) (a .dims) (a .numbers) (a .origins) (a .size) (e .extents-of .ensures) (w .width-of .ensures) (n .byte-count .ensures)
     (t .before .before .if1 .left)
     (sym (ap (offsetAllowed _) (toZ-ofZ w64 (a .numbers .offset) (offset-fits s))) ∙ sym (t .offset-allowed .ensures) ∙ c .before .if2 .left)
 

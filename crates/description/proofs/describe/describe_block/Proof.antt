@@ -1,7 +1,7 @@
 -- `description::describe::describe_block` meets its contract.
 use mathlib.Core.Path.{sym, ap, _∙_}
 use Rattle.description.specs.Answers.{wordedOutcome, measuredOutcome}
-use Rattle.description.proofs.DescribeLaws.{general-block, bad-words, bad-dims, good-dims}
+use Rattle.description.proofs.DescribeLaws.{general-block, dims-read, bad-words, bad-dims, good-dims}
 use Rattle.description.proofs.DimLaws.{dims-small}
 use borrow.Author.Needs.{needs}
 use Rattle.description.proofs.describe.describe_block.Statement.{statement}
@@ -12,6 +12,9 @@ refuse-requires c κs = search needs
 
 returns : tie.Need-returns
 returns c = c .refuse .ensures ∙ general-block _ _ (c .before .if1 .taken)
+
+fields-of-requires : tie.Need-fields-of-requires
+fields-of-requires c κs = search needs
 
 words-of-requires : tie.Need-words-of-requires
 words-of-requires c κs = search needs
@@ -32,16 +35,34 @@ enum-known-dims : tie.Need-enum-known-dims
 enum-known-dims c = search needs
 
 number-array-requires : tie.Need-number-array-requires
-number-array-requires c κs = dims-small _ (sym (c .before .before .before .dims-of .ensures) ∙ ap measuredOutcome (c .before .dims .given .1))
+number-array-requires c κs =
+    let d = c .before .before .before in
+    let f = d .before .before .before .before .before in
+    dims-small _ (sym (dims-read _ _ (f .before .if1 .left) (f .fields-of .result) (f .fields-of .ensures .0) (d .dims-of .ensures)) ∙ ap measuredOutcome (c .before .dims .given .1))
 
 returns-2 : tie.Need-returns-2
-returns-2 c = bad-words _ _ (c .before .before .before .before .if1 .left) (sym (ap wordedOutcome (c .before .e .given .1)) ∙ c .before .before .before .words-of .ensures)
+returns-2 c =
+    let w = c .before .before .before in
+    let f = w .before in
+    bad-words _ _ (f .before .if1 .left) (f .fields-of .result) (f .fields-of .ensures .0) (sym (ap wordedOutcome (c .before .e .given .1)) ∙ w .words-of .ensures)
 
 returns-3 : tie.Need-returns-3
-returns-3 c = bad-dims _ _ (c .before .before .before .before .before .before .before .before .if1 .left) (sym (ap wordedOutcome (c .before .before .before .before .before .words .given .1)) ∙ c .before .before .before .before .before .before .before .words-of .ensures) (sym (ap measuredOutcome (c .before .e2 .given .1)) ∙ c .before .before .before .dims-of .ensures)
+returns-3 c =
+    let d = c .before .before .before in
+    let k = d .before in
+    let w = k .before .before .before in
+    let f = w .before in
+    bad-dims _ _ (f .before .if1 .left) (f .fields-of .result) (f .fields-of .ensures .0) (sym (ap wordedOutcome (k .before .words .given .1)) ∙ w .words-of .ensures)
+    (sym (ap measuredOutcome (c .before .e2 .given .1)) ∙ d .dims-of .ensures)
 
 returns-4 : tie.Need-returns-4
-returns-4 c = good-dims _ _ (c .before .before .before .before .before .before .before .before .before .if1 .left) (sym (ap wordedOutcome (c .before .before .before .before .before .before .words .given .1)) ∙ c .before .before .before .before .before .before .before .before .words-of .ensures) (sym (ap measuredOutcome (c .before .before .dims .given .1)) ∙ c .before .before .before .before .dims-of .ensures) (c .number-array .ensures)
+returns-4 c =
+    let d = c .before .before .before .before in
+    let k = d .before in
+    let w = k .before .before .before in
+    let f = w .before in
+    good-dims _ _ (f .before .if1 .left) (f .fields-of .result) (f .fields-of .ensures .0) (sym (ap wordedOutcome (k .before .words .given .1)) ∙ w .words-of .ensures)
+    (sym (ap measuredOutcome (c .before .before .dims .given .1)) ∙ d .dims-of .ensures) (f .fields-of .ensures .1) (c .number-array .ensures)
 
 pub describe-block-spec : {M : Type 1} → statement M
 describe-block-spec =
@@ -49,6 +70,7 @@ describe-block-spec =
     (tie.spec
     refuse-requires
     returns
+    fields-of-requires
     words-of-requires
     enum-known-e
     enum-known-words

@@ -7,14 +7,11 @@ use borrow.Author.Needs.{needs}
 use Rattle.description.proofs.dimensions.dim_of.Statement.{statement}
 use Rattle.description.proofs.dimensions.dim_of.Tie as tie
 
-look-up-requires : tie.Need-look-up-requires
-look-up-requires c κs = search needs
-
 enum-told : tie.Need-enum-told
 enum-told c = search needs
 
-enum-known-p : tie.Need-enum-known-p
-enum-known-p c = search needs
+enum-known-value : tie.Need-enum-known-value
+enum-known-value c = search needs
 
 part-requires : tie.Need-part-requires
 part-requires c κs = search needs
@@ -29,30 +26,26 @@ enum-known-n : tie.Need-enum-known-n
 enum-known-n c = search needs
 
 returns : tie.Need-returns
-returns c =
-    dim-absent (sym (c .before .before .look-up .ensures .1) ∙ ap (valueBytes _) (c .enum-told .given .1))
+returns c = dim-absent (ap (valueBytes _) (c .enum-told .given .1))
 
 returns-2 : tie.Need-returns-2
 returns-2 c =
     let n = c .before .before .before in
-    let p = n .before .before .before in
-    dim-there (sym (p .before .before .look-up .ensures .1) ∙ ap (valueBytes _) (p .p .given .1)) _ (n .before .part .ensures)
+    dim-there (ap (valueBytes _) (n .before .before .before .value .given .1)) _ (n .before .part .ensures)
     (sym (ap rangedOutcome (c .before .e .given .1)) ∙ n .number-up-to .ensures)
 
 returns-3 : tie.Need-returns-3
 returns-3 c =
     let n = c .before .before .before in
-    let p = n .before .before .before in
-    dim-there (sym (p .before .before .look-up .ensures .1) ∙ ap (valueBytes _) (p .p .given .1)) _ (n .before .part .ensures)
+    dim-there (ap (valueBytes _) (n .before .before .before .value .given .1)) _ (n .before .part .ensures)
     (sym (ap rangedOutcome (c .before .n .given .1)) ∙ n .number-up-to .ensures)
 
 pub dim-of-spec : {M : Type 1} → statement M
 dim-of-spec =
     tie.close
     (tie.spec
-    look-up-requires
     enum-told
-    enum-known-p
+    enum-known-value
     part-requires
     number-up-to-requires
     enum-known-e

@@ -1,13 +1,17 @@
 -- `description::dimensions::dims_after_one` meets its contract.
 use mathlib.Core.Path.{sym, ap, _∙_}
 use Rattle.description.specs.Answers.{dimOption}
+use Rattle.description.specs.Parts.{dimRead}
 use Rattle.description.proofs.DimLaws.{no-more, missing, bad-dim, next-dim}
 use borrow.Author.Needs.{needs}
 use Rattle.description.proofs.dimensions.dims_after_one.Statement.{statement}
 use Rattle.description.proofs.dimensions.dims_after_one.Tie as tie
 
-slice-aggregate-dim-of : tie.Need-slice-aggregate-dim-of
-slice-aggregate-dim-of c = search needs
+slice-aggregate-trace : tie.Need-slice-aggregate-trace
+slice-aggregate-trace c = search needs
+
+trace-requires : tie.Need-trace-requires
+trace-requires c κs = search needs
 
 dim-of-requires : tie.Need-dim-of-requires
 dim-of-requires c κs = search needs
@@ -26,21 +30,26 @@ dims-after-two-requires c κs = search needs
 
 returns : tie.Need-returns
 returns c =
-    no-more _ _ (missing _ (sym (ap dimOption (c .enum-told .given .1)) ∙ c .before .before .dim-of .ensures))
+    let d = c .before .before in
+    no-more _ _ (missing _ (sym (ap dimOption (c .enum-told .given .1)) ∙ d .dim-of .ensures ∙ ap dimRead (d .before .trace .ensures .1 .0)))
 
 returns-2 : tie.Need-returns-2
 returns-2 c =
-    bad-dim _ _ _ _ (sym (ap dimOption (c .before .e .given .1)) ∙ c .before .before .before .dim-of .ensures)
+    let d = c .before .before .before in
+    bad-dim _ _ _ _ (sym (ap dimOption (c .before .e .given .1)) ∙ d .dim-of .ensures ∙ ap dimRead (d .before .trace .ensures .1 .0))
 
 returns-3 : tie.Need-returns-3
 returns-3 c =
-    next-dim _ _ _ _ (sym (ap dimOption (c .before .before .dim2 .given .1)) ∙ c .before .before .before .before .dim-of .ensures) (c .dims-after-two .ensures)
+    let d = c .before .before .before .before in
+    next-dim _ _ _ _ (sym (ap dimOption (c .before .before .dim2 .given .1)) ∙ d .dim-of .ensures ∙ ap dimRead (d .before .trace .ensures .1 .0))
+    (c .dims-after-two .ensures)
 
 pub dims-after-one-spec : {M : Type 1} → statement M
 dims-after-one-spec =
     tie.close
     (tie.spec
-    slice-aggregate-dim-of
+    slice-aggregate-trace
+    trace-requires
     dim-of-requires
     enum-told
     enum-known-e

@@ -1,11 +1,6 @@
 -- `description::words::words_of` meets its contract.
-use mathlib.Core.Path.{_≡_, sym, ap, _∙_}
-use Rattle.scan.specs.Byte.{ascii}
-use Rattle.scan.specs.Outcome.{ok}
-use Rattle.raster.specs.Types.{typeWords, orderWords}
+use mathlib.Core.Path.{sym, ap, _∙_}
 use Rattle.description.specs.Answers.{codedOutcome}
-use Rattle.description.specs.Fields.{wordField}
-use Rattle.description.specs.Parts.{fieldsOf}
 use Rattle.description.proofs.DescribeLaws.{bad-type, bad-order, bad-compression, good-words}
 use borrow.Author.Needs.{needs}
 use Rattle.description.proofs.words.words_of.Statement.{statement}
@@ -39,30 +34,26 @@ enum-known-c : tie.Need-enum-known-c
 enum-known-c c = search needs
 
 returns : tie.Need-returns
-returns c =
-    bad-type _ (sym (ap codedOutcome (c .before .e .given .1)) ∙ c .before .before .before .data-type .ensures)
-
--- The codes that were read.
-type-read : (c : tie.After-known-told2) → ok (c .before .t .given .0 .0) ≡ wordField 1 typeWords 7 (fieldsOf (c .before .before .before .before .before .args .file .now) (c .before .before .before .before .before .args .b) (ascii "DataType"))
-type-read c = sym (ap codedOutcome (c .before .t .given .1)) ∙ c .before .before .before .data-type .ensures
-
-order-read : (c : tie.After-known-told4) → ok (c .before .o .given .0 .0) ≡ wordField 2 orderWords 1 (fieldsOf (c .before .before .before .before .before .before .before .before .before .args .file .now) (c .before .before .before .before .before .before .before .before .before .args .b) (ascii "ByteOrder"))
-order-read c = sym (ap codedOutcome (c .before .o .given .1)) ∙ c .before .before .before .byte-order .ensures
+returns c = bad-type _ (sym (ap codedOutcome (c .before .e .given .1)) ∙ c .before .before .before .data-type .ensures)
 
 returns-2 : tie.Need-returns-2
 returns-2 c =
-    bad-order _ (type-read (c .before .before .before .before)) (sym (ap codedOutcome (c .before .e2 .given .1)) ∙ c .before .before .before .byte-order .ensures)
+    let t = c .before .before .before .before in
+    bad-order _ (sym (ap codedOutcome (t .before .t .given .1)) ∙ t .before .before .before .data-type .ensures)
+    (sym (ap codedOutcome (c .before .e2 .given .1)) ∙ c .before .before .before .byte-order .ensures)
 
 returns-3 : tie.Need-returns-3
 returns-3 c =
     let o = c .before .before .before .before in
-    bad-compression _ (type-read (o .before .before .before .before)) (order-read o)
+    let t = o .before .before .before .before in
+    bad-compression _ (sym (ap codedOutcome (t .before .t .given .1)) ∙ t .before .before .before .data-type .ensures) (sym (ap codedOutcome (o .before .o .given .1)) ∙ o .before .before .before .byte-order .ensures)
     (sym (ap codedOutcome (c .before .e3 .given .1)) ∙ c .before .before .before .compression .ensures)
 
 returns-4 : tie.Need-returns-4
 returns-4 c =
     let o = c .before .before .before .before in
-    good-words _ (type-read (o .before .before .before .before)) (order-read o)
+    let t = o .before .before .before .before in
+    good-words _ (sym (ap codedOutcome (t .before .t .given .1)) ∙ t .before .before .before .data-type .ensures) (sym (ap codedOutcome (o .before .o .given .1)) ∙ o .before .before .before .byte-order .ensures)
     (sym (ap codedOutcome (c .before .c .given .1)) ∙ c .before .before .before .compression .ensures)
 
 pub words-of-spec : {M : Type 1} → statement M
