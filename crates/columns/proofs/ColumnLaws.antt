@@ -1,18 +1,17 @@
 -- Columns, piece by piece.
 use mathlib.Core.Path.{_≡_, refl, ap, _∙_}
 use mathlib.Core.List.{List, [], _∷_, _++_, append-assoc, append-nil}
-use Prim.Native.Nat.{ℕ, _-_}
+use Prim.Native.Nat.{ℕ}
 use borrow.Author.Tests.{eq-eqb, ne-eqb}
-use lib.ListN.{take, getD}
+use lib.ListN.{take}
 use Rattle.scan.specs.Byte.{ascii}
 use Rattle.scan.specs.declared.Error.{Error}
-use Rattle.text.specs.Decimal.{decimal}
 use Rattle.blocks.specs.IdentityText.{identityText}
 use Rattle.blocks.specs.declared.Row.{Row}
-use Rattle.raster.specs.Types.{orderWords}
-use Rattle.description.specs.Shape.{arrayType, arrayDims}
+use Rattle.origins.specs.Letter.{letterOf}
+use Rattle.description.specs.Shape.{arrayDims}
 use Rattle.description.specs.declared.Description.{Description}
-use Rattle.columns.specs.Columns.{number, after, identityOf, dimsText, arrayColumns, errorColumns}
+use Rattle.columns.specs.Columns.{number, after, identityOf, dimsText, marked, wordsColumns, numbersColumns, arrayColumns, errorColumns}
 
 -- ---- Pieces after a separator
 
@@ -23,19 +22,16 @@ module _ (b : ℕ) where
   after-both (x ∷ xs) ys =
       append-assoc (b ∷ x) (after b xs) (after b ys) ∙ ap (λ (l : List ℕ). (b ∷ x) ++ l) (after-both xs ys)
 
-  module _ (x y z : List ℕ) where
+  module _ (x y : List ℕ) where
     pub after-two : (b ∷ x) ++ (b ∷ y) ≡ after b (x ∷ y ∷ [])
     unfolding after
     after-two = simp append-nil
 
-    pub after-three : ((b ∷ x) ++ (b ∷ y)) ++ (b ∷ z) ≡ after b (x ∷ y ∷ z ∷ [])
+    pub after-three : (z : List ℕ) → ((b ∷ x) ++ (b ∷ y)) ++ (b ∷ z) ≡ after b (x ∷ y ∷ z ∷ [])
     unfolding after
-    after-three = simp (append-assoc, append-nil)
+    after-three z = simp (append-assoc, append-nil)
 
 -- ---- The columns of an array
-
-pub words-are : (t o : List ℕ) → ((32 ∷ t) ++ (32 ∷ [])) ++ o ≡ after 32 (t ∷ o ∷ [])
-words-are t o = append-assoc (32 ∷ t) (32 ∷ []) o ∙ after-two 32 t o []
 
 module _ (a b c : ℕ) where
   pub one-dim : (n : ℕ) → n ≡ 1 → 32 ∷ number a ≡ 32 ∷ dimsText (take n (a ∷ b ∷ c ∷ []))
@@ -52,19 +48,21 @@ module _ (a b c : ℕ) where
   three-dims n e = rw e (simp (append-assoc, append-nil))
 
 pub array-is : (d : Description)
-    → (after 32 (arrayType d .word ∷ getD orderWords (d .byteorder - 1) [] ∷ []) ++ (32 ∷ dimsText (arrayDims d)))
-    ++ after 32 (number (d .configuration) ∷ number (d .orientation) ∷ decimal (d .offset) ∷ []) ≡ after 32 (arrayColumns d)
+    → ((after 32 (wordsColumns d) ++ (32 ∷ dimsText (arrayDims d))) ++ (letterOf (d .origins .dims) ∷ [])) ++ after 32 (numbersColumns d)
+    ≡ after 32 (arrayColumns d)
 unfolding arrayColumns after
 array-is d =
-    let words = arrayType d .word ∷ getD orderWords (d .byteorder - 1) [] ∷ [] in
-    let numbers = number (d .configuration) ∷ number (d .orientation) ∷ decimal (d .offset) ∷ [] in
-    append-assoc (after 32 words) (32 ∷ dimsText (arrayDims d)) (after 32 numbers) ∙ after-both 32 words (dimsText (arrayDims d) ∷ numbers)
+    let dims = marked (dimsText (arrayDims d)) (d .origins .dims) in
+    ap (λ (l : List ℕ). l ++ after 32 (numbersColumns d))
+    (append-assoc (after 32 (wordsColumns d)) (32 ∷ dimsText (arrayDims d)) (letterOf (d .origins .dims) ∷ []))
+    ∙ append-assoc (after 32 (wordsColumns d)) (32 ∷ dims) (after 32 (numbersColumns d))
+    ∙ after-both 32 (wordsColumns d) (dims ∷ numbersColumns d)
 
 -- ---- The columns of a row and of an error
 
 pub error-is : (e : Error) → (32 ∷ number (e .code)) ++ (32 ∷ number (e .position)) ≡ after 32 (errorColumns e)
 unfolding errorColumns
-error-is e = after-two 32 (number (e .code)) (number (e .position)) []
+error-is e = after-two 32 (number (e .code)) (number (e .position))
 
 module _ (row : Row) where
   pub name-general : row .kind ≡ 0 → ascii "general" ≡ identityOf row

@@ -10,6 +10,8 @@ use Rattle.scan.specs.declared.Error.{Error}
 use Rattle.text.specs.Decimal.{decimal}
 use Rattle.blocks.specs.IdentityText.{identityText}
 use Rattle.blocks.specs.declared.Row.{Row}
+use Rattle.keyword.specs.declared.Origin.{Origin}
+use Rattle.origins.specs.Letter.{letterOf}
 use Rattle.raster.specs.Types.{orderWords}
 use Rattle.description.specs.Shape.{arrayType, arrayDims}
 use Rattle.description.specs.Valid.{ValidArray}
@@ -35,16 +37,25 @@ unfoldable pub dimsText : List ℕ → List ℕ
 dimsText [] = []
 dimsText (d ∷ ds) = number d ++ after 120 (map number ds)
 
--- "then type, order, Dims joined by `x`, configuration, orientation, offset"
-unfoldable pub arrayColumns : Description → List (List ℕ)
-arrayColumns d =
-    arrayType d .word
-    ∷ getD orderWords (d .byteorder - 1) []
-    ∷ dimsText (arrayDims d)
-    ∷ number (d .configuration)
-    ∷ number (d .orientation)
-    ∷ decimal (d .offset)
+-- "The lister prints o, g or d straight after each field's text" (02, No. 1).
+abbrev pub marked : List ℕ → Origin → List ℕ
+marked text origin = text ++ (letterOf origin ∷ [])
+
+-- Type and order.
+abbrev pub wordsColumns : Description → List (List ℕ)
+wordsColumns d = marked (arrayType d .word) (d .origins .datatype) ∷ marked (getD orderWords (d .byteorder - 1) []) (d .origins .byteorder) ∷ []
+
+-- Configuration, orientation and offset.
+abbrev pub numbersColumns : Description → List (List ℕ)
+numbersColumns d =
+    marked (number (d .configuration)) (d .origins .configuration)
+    ∷ marked (number (d .orientation)) (d .origins .orientation)
+    ∷ marked (decimal (d .offset)) (d .origins .offset)
     ∷ []
+
+-- "then type, order, Dims joined by `x`, configuration, orientation, offset", each with the letter of its origin.
+unfoldable pub arrayColumns : Description → List (List ℕ)
+arrayColumns d = wordsColumns d ++ (marked (dimsText (arrayDims d)) (d .origins .dims) ∷ numbersColumns d)
 
 -- "number, place" of an error.
 unfoldable pub errorColumns : Error → List (List ℕ)

@@ -13,6 +13,9 @@ use Rattle.scan.specs.declared.Error.{Error}
 use Rattle.text.specs.Number.{wholeNumber}
 use Rattle.keyword.specs.Keyword.{View}
 use Rattle.keyword.specs.Viewing.{valueIn}
+use Rattle.origins.specs.Fields.{valuesBy}
+use Rattle.origins.specs.Origins.{originsIn}
+use Rattle.origins.specs.declared.Origins.{Origins}
 use Rattle.raster.specs.Axis.{configurations}
 use Rattle.raster.specs.Position.{product}
 use Rattle.raster.specs.Types.{typeOf, typeWords, orderWords, compressionWords, codeOf}
@@ -60,7 +63,7 @@ module _ (look : Values) where
       steps FieldError (dimsFrom (foundFirst (dimValues look))) _ (dims-from-errors (foundFirst (dimValues look)))
       (λ ds. checks FieldError (not (eqb (length (foundFirst (dimValues look ++ (look (ascii "Dim_4") ∷ [])))) 4)) 19 0 _ (omega arith) (no-error FieldError (orEmpty ds)))
 
-  words-errors : FieldErrors (wordsOf look)
+  words-errors : FieldErrors (wordsOf (valuesBy look))
   unfolding wordsOf
   words-errors =
       steps FieldError (wordField 1 typeWords 7 (look (ascii "DataType"))) _ (word-errors 1 typeWords 7 (look (ascii "DataType")) (omega arith))
@@ -68,10 +71,10 @@ module _ (look : Values) where
       (λ o. steps FieldError (wordField 3 compressionWords 1 (look (ascii "Compression"))) _
       (word-errors 3 compressionWords 1 (look (ascii "Compression")) (omega arith)) (λ c. no-error FieldError _)))
 
-  described-errors : (size : ℕ) → FieldErrors (described look size)
+  described-errors : (origins : Origins) (size : ℕ) → FieldErrors (described look origins size)
   unfolding described
-  described-errors size =
-      steps FieldError (wordsOf look) _ words-errors
+  described-errors origins size =
+      steps FieldError (wordsOf (valuesBy look)) _ words-errors
       (λ words. steps FieldError (dimsOf look) _ dims-errors
       (λ dims. steps FieldError (rangeField 5 (configurations (length dims)) 1 (look (ascii "DataRasterConfiguration"))) _
       (range-errors 5 (configurations (length dims)) 1 (look (ascii "DataRasterConfiguration")) (omega arith))
@@ -84,4 +87,4 @@ module _ (look : Values) where
 pub description-errors : (v : View) → Errors FieldError (descriptionIn v)
 unfolding descriptionIn
 description-errors v =
-    checks FieldError (eqb (v .row .kind) 1) 16 0 _ (omega arith) (described-errors (valueIn v) (v .row .size))
+    checks FieldError (eqb (v .row .kind) 1) 16 0 _ (omega arith) (described-errors (valueIn v) (originsIn v) (v .row .size))

@@ -14,8 +14,11 @@ const NUMBER_COLUMN: usize = 1 + DECIMAL_MOST;
 // Number, start, header and extent length, identity.
 const ROW_MOST: usize = DECIMAL_MOST + 3 * NUMBER_COLUMN + 1 + IDENTITY_MOST;
 
-// Type, order, three Dims, configuration, orientation, offset.
-const ARRAY_MOST: usize = 1 + TYPE_MOST + 1 + ORDER_MOST + 6 * NUMBER_COLUMN;
+// The letter of an origin.
+const LETTER_MOST: usize = 1;
+
+// Type, order, three Dims, configuration, orientation, offset, and a letter after each of these six fields.
+const ARRAY_MOST: usize = 1 + TYPE_MOST + 1 + ORDER_MOST + 6 * NUMBER_COLUMN + 6 * LETTER_MOST;
 
 // `blocks` and the count; a block.
 const COUNT_LINE_MOST: usize = 6 + NUMBER_COLUMN + 1;

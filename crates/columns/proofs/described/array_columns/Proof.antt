@@ -11,10 +11,13 @@ words-columns-requires c κs = search needs
 
 dims-column-requires : tie.Need-dims-column-requires
 dims-column-requires c κs =
-    let v = c .before .before .before .before .before .before .pre .0 .1 in (
+    let v = c .before .before .before .before .before .before .before .pre .0 .1 in (
       (v .at-least-one, v .few),
       ((omega (arith, v .most), omega (arith, v .most), omega (arith, v .most)), omega (arith, c .before .before .before .words-columns .ensures .1)),
     )
+
+append-letter-requires : tie.Need-append-letter-requires
+append-letter-requires c κs = search needs
 
 numbers-columns-requires : tie.Need-numbers-columns-requires
 numbers-columns-requires c κs = search needs
@@ -24,10 +27,18 @@ same-length c = search needs
 
 returns : tie.Need-returns
 returns c =
-    let w = c .before .before .before .before .before .before .before .before .before .before .words-columns .ensures in
-    let x = c .before .before .before .before .before .before .dims-column .ensures in
-    let n = c .before .before .numbers-columns .ensures in
-    (appended-is (array-is (c .before .before .before .before .before .before .before .before .before .before .before .before .before .args .d)) (appended-then (appended-then (w .0) (x .0)) (n .0)), omega (arith, w .1, x .1, n .1))
+    let n = c .before .before in
+    let l = n .before .before .before .before in
+    let x = l .before .before .before .before in
+    let w = x .before .before .before .before in
+    let start = w .before .before .before .before in
+    let words = w .words-columns .ensures in
+    let dims = x .dims-column .ensures in
+    let letter = l .append-letter .ensures in
+    let numbers = n .numbers-columns .ensures in (
+      appended-is (array-is (start .args .d)) (appended-then (appended-then (appended-then (words .0) (dims .0)) letter) (numbers .0)),
+      omega (arith, words .1, dims .1, letter .next-is, numbers .1),
+    )
 
 pub array-columns-spec : {M : Type 1} → statement M
 array-columns-spec =
@@ -35,6 +46,7 @@ array-columns-spec =
     (tie.spec
     words-columns-requires
     dims-column-requires
+    append-letter-requires
     numbers-columns-requires
     same-length
     returns)
