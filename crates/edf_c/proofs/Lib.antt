@@ -1,6 +1,5 @@
 pub mod Answering
 pub mod Fields
-pub mod Numbering
 pub mod Opening
 pub mod Sampling
 pub mod Storing

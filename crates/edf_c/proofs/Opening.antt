@@ -11,8 +11,8 @@ use Rattle.blocks.specs.Opening.{openedInto, countOf}
 use Rattle.blocks.specs.declared.Row.{Row}
 use Rattle.edf.proofs.OpeningLaws.{some-code}
 use Rattle.edf.proofs.OpeningLaws as laws
+use Rattle.records.specs.Table.{allNumbers}
 use Rattle.edf_c.specs.Opening.{OpensNumbers}
-use Rattle.edf_c.specs.Table.{allNumbers}
 use Rattle.edf_c.proofs.Tabling.{OpenedAs}
 
 module _ (s before after : List ℕ) (v p code count position : ℕ)

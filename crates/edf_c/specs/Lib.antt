@@ -1,7 +1,5 @@
 pub mod Answers
 pub mod Fields
-pub mod Numbers
 pub mod Opening
 pub mod Samples
 pub mod Stored
-pub mod Table

@@ -6,7 +6,7 @@ use Prim.Native.Nat.{ℕ, _/_}
 use lib.ListN.{length}
 use Rattle.scan.specs.Buffer.{over}
 use Rattle.edf.specs.Opening.{Opens}
-use Rattle.edf_c.specs.Table.{allNumbers}
+use Rattle.records.specs.Table.{allNumbers}
 
 -- Opening the file s into numbers that held `before`, seven a row, gives a code, the numbers for the count of blocks and the position of
 -- an error, and leaves `after`: demand 3, as `edf::open` keeps it. Code 0 with the count is the answer, another code with the position the

@@ -6,10 +6,9 @@ use Prim.Native.Nat.{ℕ}
 use Rattle.scan.specs.Byte.{partOf}
 use Rattle.scan.specs.Outcome.{ok}
 use Rattle.scan.specs.declared.Span.{Span}
-use Rattle.description.specs.declared.Description.{Description}
 use Rattle.array.specs.Delivery.{arrayIn}
 use Rattle.stored.specs.declared.StoredArray.{StoredArray}
-use Rattle.edf_c.specs.Numbers.{fieldsOf}
+use Rattle.records.specs.Numbers.{descriptionNumbers}
 
 -- A flag is 1 or 0.
 abbrev pub flag : Bool → ℕ
@@ -26,7 +25,7 @@ storedOf description span delivered = record { description = description; span =
 
 -- The numbers of a stored array.
 abbrev pub storedNumbers : StoredArray → StoredNumbers
-storedNumbers a = storedOf (fieldsOf (a .description)) (a .span) (flag (a .delivered))
+storedNumbers a = storedOf (descriptionNumbers (a .description)) (a .span) (flag (a .delivered))
 
 -- In success, and where the flag is 1, the part of the file at the span is the array delivered.
 abbrev pub DeliveredAt : List ℕ → ℕ → ℕ → ℕ → Span → ℕ → Type 0

@@ -1,23 +1,23 @@
 // The array of a block.
 use crate::answers::put_written;
-use crate::numbers::DESCRIPTION;
-use crate::numbers::fields_of;
 use array::Sampled;
 use description::Described;
 use raster::Pixel;
+use records::numbers::DESCRIPTION;
+use records::numbers::description_numbers;
 use stored::Stored;
 ghost use mathlib.Core.Path.{_≡_};
 ghost use Rattle.scan.specs.Buffer.{lengthWritten, bufferAfter};
 ghost use Rattle.description.specs.Describe.{descriptionOf};
 ghost use Rattle.array.specs.Delivery.{arrayIn, pixelIn};
 ghost use Rattle.stored.specs.Stored.{storedArray};
+ghost use Rattle.records.specs.Numbers.{descriptionNumbers};
 ghost use Rattle.edf_c.specs.Answers.{codeOf, valueAfter, positionAfter, mapped};
 ghost use Rattle.edf_c.specs.Fields.{spanOf};
-ghost use Rattle.edf_c.specs.Numbers.{fieldsOf};
 ghost use Rattle.edf_c.specs.Samples.{sampleOf, sampleAfter};
 ghost use Rattle.edf_c.specs.Stored.{flag, storedOf, storedNumbers, DeliveredAt};
 
-// The description of a block's array, a number for each field: `edf::describe`.
+// The description of a block's array, a number for each field, then one for each field's origin: `edf::describe`.
 #[no_mangle]
 pub extern "C" fn edf_describe(
     file: &[u8],
@@ -26,12 +26,12 @@ pub extern "C" fn edf_describe(
     position: &mut usize,
 ) -> u8
     ensures { λ r. ⌜ r ≡ codeOf (descriptionOf (now (file .entry)) block) ⌝ }
-    ensures { λ _. ⌜ now (description .exit) ≡ valueAfter (mapped fieldsOf (descriptionOf (now (file .entry)) block)) (now (description .entry)) ⌝ }
+    ensures { λ _. ⌜ now (description .exit) ≡ valueAfter (mapped descriptionNumbers (descriptionOf (now (file .entry)) block)) (now (description .entry)) ⌝ }
     ensures { λ _. ⌜ now (position .exit) ≡ positionAfter (descriptionOf (now (file .entry)) block) (now (position .entry)) ⌝ }
 {
     match edf::describe(file, block) {
         Described::Array(d) => {
-            *description = fields_of(d);
+            *description = description_numbers(d);
             0
         }
         Described::Failed(e) => {
@@ -67,7 +67,7 @@ fn flag_of(b: bool) -> u8
     if b { 1 } else { 0 }
 }
 
-// The array of a block as it is stored: `edf::stored_array`. A number for each field of its description, its span, and 1 or 0 for
+// The array of a block as it is stored: `edf::stored_array`. The numbers of its description, its span, and 1 or 0 for
 // whether the bytes there are those that `edf_read_array` gives.
 #[no_mangle]
 pub extern "C" fn edf_stored_array(
@@ -89,7 +89,7 @@ pub extern "C" fn edf_stored_array(
         Stored::Array(a) => {
             let d = a.description;
             let place = a.span;
-            *description = fields_of(d);
+            *description = description_numbers(d);
             *start = place.offset;
             *size = place.length;
             *delivered = flag_of(a.delivered);

@@ -1,7 +1,7 @@
 // The blocks of a file, its listing and its parts.
 use crate::answers::put_written;
-use crate::numbers::ROW;
 use blocks::Opened;
+use records::numbers::ROW;
 use scan::Span;
 ghost use mathlib.Core.Path.{_≡_};
 ghost use Prim.Native.Nat.{_/_};
@@ -11,10 +11,10 @@ ghost use Rattle.scan.specs.Byte.{partOf};
 ghost use Rattle.scan.specs.Outcome.{ok};
 ghost use Rattle.blocks.specs.Opening.{openedInto, countOf};
 ghost use Rattle.listing.specs.Listing.{listing, FitsListing};
+ghost use Rattle.records.specs.Table.{numbersAfter};
 ghost use Rattle.edf_c.specs.Answers.{codeOf, valueAfter, positionAfter};
 ghost use Rattle.edf_c.specs.Fields.{spanOf};
 ghost use Rattle.edf_c.specs.Opening.{OpensNumbers};
-ghost use Rattle.edf_c.specs.Table.{numbersAfter};
 
 // Opens a file into a lent table, as `edf::open` does. The table is lent as numbers, seven a row, of which the file's blocks take
 // the first; the others stay.
@@ -33,7 +33,7 @@ pub extern "C" fn edf_open(
 {
     let p = opening::table::planned(file, rows.len() / ROW);
     let answer = p.answer;
-    crate::table::put_rows(rows, p);
+    records::table::put_rows(rows, p);
     match answer {
         Opened::Blocks(n) => {
             *count = n;

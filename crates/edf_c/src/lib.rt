@@ -5,7 +5,5 @@ mod answers;
 mod arrays;
 mod files;
 mod keywords;
-mod numbers;
-mod table;
 mod texts;
 mod writing;

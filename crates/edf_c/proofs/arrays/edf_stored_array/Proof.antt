@@ -11,8 +11,8 @@ stored-array-requires c κs = search needs
 enum-known-a : tie.Need-enum-known-a
 enum-known-a c = search needs
 
-fields-of-requires : tie.Need-fields-of-requires
-fields-of-requires c κs = search needs
+description-numbers-requires : tie.Need-description-numbers-requires
+description-numbers-requires c κs = search needs
 
 flag-of-requires : tie.Need-flag-of-requires
 flag-of-requires c κs = search needs
@@ -24,7 +24,7 @@ returns : tie.Need-returns
 returns c =
     let m = c .before .before .before .before .before in
     stores _ _ _ _ _ (m .before .before .stored-array .ensures) (m .a .given .1)
-    (λ j. storedOf (c .before .fields-of .ensures j) (m .a .given .0 .0 .span) (c .flag-of .ensures j))
+    (λ j. storedOf (c .before .description-numbers .ensures j) (m .a .given .0 .0 .span) (c .flag-of .ensures j))
 
 returns-2 : tie.Need-returns-2
 returns-2 c = stores-none _ _ _ _ _ (c .before .before .before .stored-array .ensures) (c .before .e .given .1)
@@ -32,4 +32,4 @@ returns-2 c = stores-none _ _ _ _ _ (c .before .before .before .stored-array .en
 pub edf-stored-array-spec : {M : Type 1} → statement M
 edf-stored-array-spec =
     tie.close
-    (tie.spec stored-array-requires enum-known-a fields-of-requires flag-of-requires enum-known-e returns returns-2)
+    (tie.spec stored-array-requires enum-known-a description-numbers-requires flag-of-requires enum-known-e returns returns-2)

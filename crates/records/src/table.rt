@@ -1,13 +1,13 @@
 // The rows of an opened file as numbers.
 use crate::numbers::ROW;
-use crate::numbers::numbers_of;
+use crate::numbers::row_numbers;
 use opening::Opening;
 ghost use mathlib.Core.Path.{_≡_};
 ghost use Prim.Native.Nat.{_+_, _*_, _≤_};
 ghost use lib.ListN.{length, take};
 ghost use Rattle.scan.specs.Buffer.{over};
 ghost use Rattle.raster.specs.Strided.{patched};
-ghost use Rattle.edf_c.specs.Table.{allNumbers};
+ghost use Rattle.records.specs.Table.{allNumbers};
 
 // The numbers of a row, from a place on.
 fn put_row(rows: &mut [u64], at: usize, b: [u64; ROW])
@@ -30,7 +30,7 @@ pub fn put_rows(rows: &mut [u64], p: Opening)
     let mut i = 0;
     while i < count {
         let row = p.rows[i];
-        put_row(rows, ROW * i, numbers_of(row));
+        put_row(rows, ROW * i, row_numbers(row));
         i += 1;
     }
 }

@@ -1,11 +1,11 @@
--- `edf_c::numbers::bits_of` meets its contract.
+-- `records::numbers::bits_of` meets its contract.
 use mathlib.Core.Path.{sym, ap, _∙_}
 use Rattle.text.proofs.Signs.{held}
-use Rattle.edf_c.proofs.Numbering.{down-bits}
-use Rattle.edf_c.specs.Numbers.{bitsOf}
+use Rattle.records.proofs.Numbering.{down-bits}
+use Rattle.records.specs.Numbers.{bitsOf}
 use borrow.Author.Needs.{needs}
-use Rattle.edf_c.proofs.numbers.bits_of.Statement.{statement}
-use Rattle.edf_c.proofs.numbers.bits_of.Tie as tie
+use Rattle.records.proofs.numbers.bits_of.Statement.{statement}
+use Rattle.records.proofs.numbers.bits_of.Tie as tie
 
 apart-requires : tie.Need-apart-requires
 apart-requires c κs = search needs

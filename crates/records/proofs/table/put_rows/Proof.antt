@@ -1,4 +1,4 @@
--- `edf_c::table::put_rows` meets its contract. The invariant: the first i rows are written.
+-- `records::table::put_rows` meets its contract. The invariant: the first i rows are written.
 use mathlib.Core.Path.{_≡_, refl, sym, _∙_}
 use mathlib.Core.List.{map}
 use Prim.Native.Nat.{_-_, _≤_}
@@ -7,10 +7,10 @@ use lib.ListN.{length, length-map}
 use Rattle.scan.specs.Buffer.{over}
 use Rattle.blocks.proofs.Row as R
 use Rattle.raster.specs.Bytes.{joined}
-use Rattle.edf_c.proofs.Tabling.{piece, laid-none, laid-more, laid-all}
+use Rattle.records.proofs.Tabling.{piece, laid-none, laid-more, laid-all}
 use borrow.Author.Needs.{needs}
-use Rattle.edf_c.proofs.table.put_rows.Statement.{statement}
-use Rattle.edf_c.proofs.table.put_rows.Tie as tie
+use Rattle.records.proofs.table.put_rows.Statement.{statement}
+use Rattle.records.proofs.table.put_rows.Tie as tie
 
 abbrev Inv-loop : tie.InvT-loop
 Inv-loop rows₀ p count i₀ rows i = (i ≤ count) × (length rows ≡ length rows₀) × (rows ≡ over (joined i (piece (p .rows))) rows₀)
@@ -30,8 +30,8 @@ element-copy-out-row c = search needs
 mul-put-row : tie.Need-mul-put-row Inv-loop μ-loop
 mul-put-row c = omega arith
 
-numbers-of-requires : tie.Need-numbers-of-requires Inv-loop μ-loop
-numbers-of-requires c κs = search needs
+row-numbers-requires : tie.Need-row-numbers-requires Inv-loop μ-loop
+row-numbers-requires c κs = search needs
 
 put-row-requires : tie.Need-put-row-requires Inv-loop μ-loop
 put-row-requires c κs = omega arith
@@ -49,7 +49,7 @@ loop-again c =
     let a = l .before .before .args in (
       omega arith,
       c .before .rows .given ∙ l .loop .inv .1,
-      w .put-row .ensures ∙ laid-more (a .t2 .rows) (a .rows .now) (l .loop .i) _ _ (l .loop .inv .2) (w .before .numbers-of .ensures),
+      w .put-row .ensures ∙ laid-more (a .t2 .rows) (a .rows .now) (l .loop .i) _ _ (l .loop .inv .2) (w .before .row-numbers .ensures),
     )
 
 same-length : tie.Need-same-length Inv-loop μ-loop
@@ -78,7 +78,7 @@ put-rows-spec =
     mul-row
     element-copy-out-row
     mul-put-row
-    numbers-of-requires
+    row-numbers-requires
     put-row-requires
     add-i
     loop-less

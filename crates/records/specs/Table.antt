@@ -4,12 +4,12 @@ use Prim.Native.Nat.{ℕ}
 use Rattle.scan.specs.Buffer.{over}
 use Rattle.scan.specs.Outcome.{Outcome, ok, failed}
 use Rattle.blocks.specs.declared.Row.{Row}
-use Rattle.edf_c.specs.Numbers.{numbersOf}
+use Rattle.records.specs.Numbers.{rowNumbers}
 
 -- The numbers of rows, one after the other.
 unfoldable pub allNumbers : List Row → List ℕ
 allNumbers [] = []
-allNumbers (r ∷ rows) = numbersOf r ++ allNumbers rows
+allNumbers (r ∷ rows) = rowNumbers r ++ allNumbers rows
 
 -- The lent numbers afterwards: those of the rows are laid over their front, and in an error they are what they were.
 abbrev pub numbersAfter : Outcome (List Row) → List ℕ → List ℕ

@@ -1,13 +1,13 @@
--- `edf_c::numbers::numbers_of` meets its contract.
+-- `records::numbers::row_numbers` meets its contract.
 use mathlib.Core.Path.{ap, _∙_}
 use mir.Syntax.{w64}
 use mir.Val.{SFits}
 use mir.ValLaws.{toZ-ofZ}
-use Rattle.edf_c.proofs.Numbering.{numbers-are}
-use Rattle.edf_c.specs.Numbers.{bitsOf}
+use Rattle.records.proofs.Numbering.{numbers-are}
+use Rattle.records.specs.Numbers.{bitsOf}
 use borrow.Author.Needs.{needs}
-use Rattle.edf_c.proofs.numbers.numbers_of.Statement.{statement}
-use Rattle.edf_c.proofs.numbers.numbers_of.Tie as tie
+use Rattle.records.proofs.numbers.row_numbers.Statement.{statement}
+use Rattle.records.proofs.numbers.row_numbers.Tie as tie
 
 bits-of-requires : tie.Need-bits-of-requires
 bits-of-requires c κs = search needs
@@ -36,5 +36,5 @@ returns c =
     numbers-are (s .args .row) (first .bits-of .ensures ∙ ap bitsOf (toZ-ofZ w64 _ (sequence-fits s)))
     (second .bits-of2 .ensures ∙ ap bitsOf (toZ-ofZ w64 _ (memory-fits s)))
 
-pub numbers-of-spec : {M : Type 1} → statement M
-numbers-of-spec = tie.close (tie.spec bits-of-requires bits-of-requires-2 cast-t7 cast-t8 returns)
+pub row-numbers-spec : {M : Type 1} → statement M
+row-numbers-spec = tie.close (tie.spec bits-of-requires bits-of-requires-2 cast-t7 cast-t8 returns)

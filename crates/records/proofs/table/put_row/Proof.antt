@@ -1,14 +1,14 @@
--- `edf_c::table::put_row` meets its contract. The invariant: the first j numbers are written.
+-- `records::table::put_row` meets its contract. The invariant: the first j numbers are written.
 use mathlib.Core.Path.{_≡_, refl, ap, _∙_}
 use Prim.Native.Nat.{ℕ, _-_, _≤_}
 use native.Mathlib.Omega.{arith}
 use lib.ListN.{length, length-set}
 use lib.Seq.{paste, paste-zero}
 use Rattle.raster.specs.Strided.{patched}
-use Rattle.edf_c.proofs.Tabling.{paste-more, pasted}
+use Rattle.records.proofs.Tabling.{paste-more, pasted}
 use borrow.Author.Needs.{needs}
-use Rattle.edf_c.proofs.table.put_row.Statement.{statement}
-use Rattle.edf_c.proofs.table.put_row.Tie as tie
+use Rattle.records.proofs.table.put_row.Statement.{statement}
+use Rattle.records.proofs.table.put_row.Tie as tie
 
 abbrev Inv-loop : tie.InvT-loop
 Inv-loop rows₀ at b j₀ rows j = (j ≤ 7) × (length rows ≡ length rows₀) × (rows ≡ paste rows₀ at b j)
