@@ -45,7 +45,7 @@ one-writing = same-written
 
 -- ---- Every file has a listing
 
--- `list` writes it, and its length, into every buffer of 75,292 bytes or more.
-pub list-writes : {s before after : List ℕ} {r : Written} → 75292 ≤ length before → Lists s before r after
+-- `list` writes it, and its length, into every buffer of 76,828 bytes or more.
+pub list-writes : {s before after : List ℕ} {r : Written} → 76828 ≤ length before → Lists s before r after
     → Puts (listing s) before r after
 list-writes h c = with-room refl (omega (arith, c .fits)) (c .writes)

@@ -50,4 +50,4 @@ table =
 pub examples-hold : Each table
 unfolding table fortyNine delivered deliveredElement storedElement elementBytes elementBits offsetBits nearest typeOf types numberOf highFirst bytesOf highBytes joined storedPosition positionFrom orderOf orderFrom insertWithAfter configurations storedPixels pixelBytes product indexAt linearPosition described wordsOf wordField dimsOf dimsFrom foundFirst rangeField wholeNumber natural digitsFrom digit same textOf unescapedAfter withoutLineBreaks meaning meanings lookupByte valueOf valueSpan trimmed leading trimmedEnd whitespace withoutOpeningQuote withoutClosingQuote quotedText escapedBody letter letters opened openedFrom blockAt headerAt frameAt openingAt
 examples-hold =
-    ((refl, refl), ((refl, refl), ((refl, refl), ((refl, refl), (refl, (refl, (refl, (refl, (refl, (refl, (refl, (refl, (refl, tt)))))))))))))
+    (λ o. (refl, refl), (λ o. (refl, refl), (λ o. (refl, refl), (λ o. (refl, refl), (refl, (refl, (λ o. refl, (refl, (refl, (refl, (refl, (refl, (refl, tt)))))))))))))

@@ -72,7 +72,8 @@ module _ (f : Frame) (title pixels before after : List ℕ) (n : ℕ) (call : Wr
       → (r ≡ Blocks 1) × (left ≡ rowOf f title pixels ∷ drop 1 table)
   opens h c = opens-rows one-block (file-small allowed) h c
 
-  -- `describe` gives the frame: type, byte order, dimensions and configuration; orientation 1 and offset 0.
+  -- `describe` gives the frame: type, byte order, dimensions and configuration, all with the origin own; and compression None, orientation
+  -- 1 and offset 0, with the origin default.
   pub describes : {r : Described} → Describe file 0 r → r ≡ described.Array (descriptionFor f)
   describes {r} c = described-by r (c .answers ∙ writer.describes f title pixels fits written)
 

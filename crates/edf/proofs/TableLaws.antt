@@ -4,17 +4,13 @@ use mathlib.Core.List.{List, [], _∷_, _++_}
 use Prim.Native.Nat.{ℕ, zero, suc, _+_, _<_, _≤_}
 use native.Mathlib.Nat.{not-suc-le-zero, le-of-suc-le-suc}
 use native.Mathlib.Numerals.{add-one}
-use lib.IntN.{pos}
 use lib.ListN.{length, getD, set, take, drop}
 use lib.Seq.{length-take-le}
 use Rattle.scan.specs.Outcome.{Outcome, ok, failed}
 use Rattle.blocks.specs.Opening.{tableAfter}
 use Rattle.blocks.specs.declared.Row.{Row}
 use Rattle.opening.specs.Table.{rowsOf}
-
--- A row of zeros: what stands past the end of a list.
-abbrev pub no-row : Row
-no-row = record { start = 0; header = 0; size = 0; kind = 0; sequence = pos 0; instance = 0; memory = pos 0 }
+use Rattle.opening.proofs.TableLaws.{no-row}
 
 -- The table t, whose first n rows are those of rs.
 unfoldable pub over : ℕ → List Row → List Row → List Row

@@ -14,6 +14,7 @@ use Rattle.blocks.specs.declared.Row.{Row}
 use Rattle.raster.specs.Axis.{Axis, orderOf}
 use Rattle.raster.specs.Element.{elementBits}
 use Rattle.raster.specs.Types.{typeOf}
+use Rattle.origins.specs.declared.Origins.{Origins}
 use Rattle.description.specs.Describe.{described, Values}
 use Rattle.description.specs.declared.Description.{Description}
 use Rattle.array.specs.Delivery.{delivered}
@@ -29,9 +30,10 @@ abbrev pub valuesFrom : List Field → Values
 valuesFrom [] name = none
 valuesFrom (f ∷ fs) name = cond (same (f .name) name) (some (f .value)) (valuesFrom fs name)
 
--- An array of UnsignedByte, 3 by 2, in a configuration: as it is described, and as it is asked of the writer.
-abbrev pub threeByTwo : ℕ → Description
-threeByTwo configuration =
+-- An array of UnsignedByte, 3 by 2, in a configuration: as it is described, wherever its fields came from, and as it is asked of the
+-- writer.
+abbrev pub threeByTwo : Origins → ℕ → Description
+threeByTwo origins configuration =
     record {
       datatype = 1;
       byteorder = 1;
@@ -43,6 +45,7 @@ threeByTwo configuration =
       configuration = configuration;
       orientation = 1;
       offset = pos 0;
+      origins = origins;
     }
 
 abbrev pub frameOf : Description → Frame
@@ -78,10 +81,10 @@ pub data Example : Type 0 where
 -- What an example says of the definitions.
 abbrev pub Holds : Example → Type 0
 Holds (stored-as c l) =
-    (delivered (threeByTwo c) 1 l ≡ 1 ∷ 2 ∷ 3 ∷ 4 ∷ 5 ∷ 6 ∷ [])
-    × (storedPixels (frameOf (threeByTwo c)) (1 ∷ 2 ∷ 3 ∷ 4 ∷ 5 ∷ 6 ∷ []) ≡ l)
+    (o : Origins) → (delivered (threeByTwo o c) 1 l ≡ 1 ∷ 2 ∷ 3 ∷ 4 ∷ 5 ∷ 6 ∷ [])
+    × (storedPixels (frameOf (threeByTwo o c)) (1 ∷ 2 ∷ 3 ∷ 4 ∷ 5 ∷ 6 ∷ []) ≡ l)
 Holds (order-is n number axes) = orderOf n number ≡ axes
-Holds (fields-refused fields code position) = described (valuesFrom fields) 1000 ≡ refused code position
+Holds (fields-refused fields code position) = (o : Origins) → described (valuesFrom fields) o 1000 ≡ refused code position
 Holds (offset-gives type l offset n) = elementBits (typeOf type) 1 offset l ≡ n
 Holds (text-is value text) = textOf (valueOf value) ≡ text
 Holds (value-form text value) = quotedText text ≡ value

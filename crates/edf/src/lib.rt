@@ -99,7 +99,8 @@ pub fn unescape(value: &[u8], out: &mut [u8]) -> Written
     text::escape::unescape(value, out)
 }
 
-// The description of a block's array. Errors: those of opening; 16 no such block, or the general block; 17 unknown word, at
+// The description of a block's array, and where each of its fields came from: the block's own header, the general header, or the
+// default. Errors: those of opening; 16 no such block, or the general block; 17 unknown word, at
 // the field's number 1 to 3; 18 bad number or range, at the field's number 4 to 7; 19 Dim_1 to Dim_4 all found; 20 data
 // shorter than the array; 21 nonzero offset on floats. The position of 16 and of 19 to 21 is 0.
 pub fn describe(file: &[u8], block: usize) -> Described
@@ -118,7 +119,7 @@ pub fn read_array(file: &[u8], block: usize, order: u8, out: &mut [u8]) -> Writt
     array::read::read_array(file, block, order, out)
 }
 
-// The array of a block as it is stored: its description, the span of its bytes in the file, and whether these are just the bytes that
+// The array of a block as it is stored: its description as `describe` gives it, the span of its bytes in the file, and whether these are just the bytes that
 // `read_array` gives in a byte order, 1 or 2. Where they are, `part` hands the array back, with nothing copied. Errors: those of
 // `describe`; 24 no such order.
 pub fn stored_array(file: &[u8], block: usize, order: u8) -> Stored
@@ -149,7 +150,7 @@ pub fn write(frame: Frame, title: &[u8], pixels: &[u8], out: &mut [u8]) -> Writt
 }
 
 // What the lister prints of a file, at the front of the lent buffer: how many bytes. A file that does not open has a listing too, of
-// one line. 75,292 bytes are enough for every file; error 22, in which the buffer is untouched: buffer too small.
+// one line. 76,828 bytes are enough for every file; error 22, in which the buffer is untouched: buffer too small.
 pub fn list(file: &[u8], out: &mut [u8]) -> Written
     ensures { λ r. ⌜ (writtenOutcome r ≡ lengthWritten (ok (listing (now (file .entry)))) (now (out .entry))) × FitsListing (now (file .entry)) ⌝ }
     ensures { λ _. ⌜ now (out .exit) ≡ bufferAfter (ok (listing (now (file .entry)))) (now (out .entry)) ⌝ }

@@ -2,7 +2,7 @@
 -- calls of these names (specs/Calls); `HasKeyword`, `FieldsAre` and the others say what stands in the file (crates/fields/specs).
 use mathlib.Core.Path.{_≡_, refl, sym, subst, _∙_}
 use mathlib.Core.List.{List}
-use mathlib.Core.Logic.{_≢_, _↔_, Iff·trans}
+use mathlib.Core.Logic.{_≢_, _↔_, Iff·trans, Iff·symm}
 use mathlib.Core.Option.{none, some}
 use Prim.Native.Nat.{ℕ, _≤_}
 use lib.IntN.{ℤ}
@@ -18,6 +18,7 @@ use Rattle.keyword.specs.declared.Located.{Located}
 use Rattle.keyword.specs.declared.Located.the-variants as located
 use Rattle.keyword.specs.declared.Number.{Number}
 use Rattle.keyword.specs.declared.Number.the-variants as number
+use Rattle.keyword.specs.declared.Origin.the-variants as origin
 use Rattle.description.specs.declared.Described.{Described}
 use Rattle.description.specs.declared.Described.the-variants as described
 use Rattle.description.specs.declared.Description.{Description}
@@ -31,12 +32,14 @@ use Rattle.blocks.specs.Values.{Absent}
 use Rattle.blocks.specs.declared.Row.{Row}
 use Rattle.fields.specs.Field.{FieldHas, FieldsAre, UnknownField, TakesDefaults, TakesValues}
 use Rattle.fields.specs.Keyword.{HasKeyword, LacksKeyword}
+use Rattle.fields.specs.Origin.{EachOrigin, OriginsAre}
 -- ---- Laws
 use Rattle.description.proofs.DescribedLaws.{same-ok}
 use Rattle.fields.proofs.Defaults.{defaults-by, values-by}
 use Rattle.fields.proofs.Defaults as fields
 use Rattle.fields.proofs.Descriptions as descriptions
 use Rattle.fields.proofs.KeywordLaws.{keyword-missing, block-missing}
+use Rattle.fields.proofs.OriginLaws.{each-map}
 use Rattle.fields.proofs.ReadLaws.{found-at, found-none, value-is, number-is, number-bad, text-is, lacks-absent}
 use Rattle.fields.proofs.ReadLaws.{not-found, no-number, no-text}
 use Rattle.edf.proofs.CallLaws.{located-by, number-by, described-by, located-as, number-as, described-as, refused-by}
@@ -95,8 +98,8 @@ module _ {s : List ℕ} {rows : List Row} (small : length s ≤ fileLimit) (part
     absent-exactly c = Iff·trans (finds-none c) lacks-absent
 
     pub takes-defaults : {d : Description} → Describe s block (described.Array d)
-        → TakesDefaults (λ name. Find s block name (located.Failed (errorAt 16 0))) d
-    takes-defaults c = defaults-by (λ name m. absent-exactly m .0 refl) (fields.takes-defaults (describes c))
+        → TakesDefaults (λ name o. Find s block name (located.Failed (errorAt 16 0))) d
+    takes-defaults c = defaults-by (λ name o m. absent-exactly m .0 refl) (fields.takes-defaults (describes c))
 
     pub takes-values : {d : Description} → Describe s block (described.Array d)
         → TakesValues (λ name v. (span : Span) × Find s block name (located.At span) × (partOf s span ≡ v)) d
@@ -105,6 +108,20 @@ module _ {s : List ℕ} {rows : List Row} (small : length s ≤ fileLimit) (part
         (λ name v m. let e = finds (m .1) .0 refl in
         record { entry = e .0; keyword = e .1; value-is = sym (finds-bytes (m .1) (e .1)) ∙ m .2 })
         (fields.takes-values (describes c))
+
+    -- Each field came from where its origin says: from the own header exactly if that has the keyword, from the general header exactly if the
+    -- own one has it not and the general one has it. The origin is default exactly if no header in reach has it, so exactly if `find`
+    -- gives 16 for it.
+    pub origins : {d : Description} → Describe s block (described.Array d) → OriginsAre s rows row (d .origins)
+    origins c = describes c .origins
+
+    pub default-origins : {d : Description} → Describe s block (described.Array d)
+        → EachOrigin (λ name o. (r : Located) → Find s block name r → (o ≡ origin.Default) ↔ (r ≡ located.Failed (errorAt 16 0))) (d .origins)
+    default-origins c = each-map (λ name o from r f. Iff·trans (from .default) (Iff·symm (finds-none f))) (origins c)
+
+    -- Such a field has its default.
+    pub assumes-defaults : {d : Description} → Describe s block (described.Array d) → TakesDefaults (λ name o. o ≡ origin.Default) d
+    assumes-defaults c = fields.assumes-defaults (describes c)
 
     -- It gives 17 at a field exactly if the word of that field is the first that is unknown.
     pub unknown-word : row .kind ≡ 1 → {r : Described} → Describe s block r → {k : ℕ}

@@ -32,7 +32,7 @@ pub use Rattle.raster.specs.Pixels.{pixelOf}
 pub use Rattle.frame.specs.File.{frameDims, frameType, writtenFile}
 pub use Rattle.frame.specs.declared.Frame.{Frame}
 pub use Rattle.frame.proofs.Allowed.{Writes}
-pub use Rattle.readback.proofs.Described.{descriptionFor}
+pub use Rattle.readback.specs.Described.{descriptionFor}
 pub use Rattle.readback.proofs.Pixels.{Inside, positionIn, pixel}
 pub use Rattle.readback.proofs.Written.{Fits, rowOf}
 pub use Rattle.columns.specs.Columns.{arrayColumns}

@@ -62,8 +62,9 @@ use Rattle.opening.proofs.table.planned as planned
 use Rattle.opening.proofs.table.planned.Symbol as planned-def
 use Rattle.opening.proofs.table.planned.Symbol.{name as #planned}
 use Rattle.opening.proofs.table.planned.Met as planned-thm
+use Rattle.opening.proofs.TableLaws.{no-row}
 use Rattle.edf.proofs.OpeningLaws.{opens-as}
-use Rattle.edf.proofs.TableLaws.{no-row, over, over-zero, length-over, over-more, over-after}
+use Rattle.edf.proofs.TableLaws.{over, over-zero, length-over, over-more, over-after}
 use Rattle.edf.proofs.Walks.{typeAt, each-at, tests, item, says2}
 use Rattle.edf.proofs.open.Key.{name as #edf·open}
 use Rattle.edf.proofs.open as open′
