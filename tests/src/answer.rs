@@ -56,7 +56,7 @@ macro_rules! answer_function {
     ($name:ident, $reader:ident) => {
         pub fn $name(file: &[u8], call: &$crate::answer::Call) -> $crate::answer::Answer {
             use $crate::answer::{float_32, float_64, Answer, Call};
-            use $crate::reader::{Description, Row};
+            use $crate::reader::{Description, Origin, Row};
             let row = |r: &$reader::Row| Row {
                 start: r.start,
                 header_length: r.header_length,
@@ -65,6 +65,11 @@ macro_rules! answer_function {
                 sequence: r.sequence,
                 instance: r.instance,
                 memory: r.memory,
+            };
+            let origin = |o: $reader::Origin| match o {
+                $reader::Origin::Own => Origin::Own,
+                $reader::Origin::General => Origin::General,
+                $reader::Origin::Default => Origin::Default,
             };
             let description = |d: $reader::Description| Description {
                 data_type: d.data_type,
@@ -77,6 +82,7 @@ macro_rules! answer_function {
                 configuration: d.configuration,
                 orientation: d.orientation,
                 offset: d.offset,
+                origins: d.origins.map(origin),
             };
             let pixel = |p: $reader::Pixel| match p {
                 $reader::Pixel::Unsigned(value) => Answer::Unsigned(value),

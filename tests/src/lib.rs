@@ -1,4 +1,4 @@
-//! A second reader of the ESRF Data Format, written from the paper "01" alone,
+//! A second reader of the ESRF Data Format, written from the papers "01" and "02" alone,
 //! and generated cases to compare readers with.
 
 pub mod answer;

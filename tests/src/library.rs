@@ -2,7 +2,7 @@
 //! a pattern, has guards around it, and is compared whole afterwards.
 
 use crate::answer::{float_32, float_64, Answer, Call};
-use crate::reader::{Description, Frame, Row};
+use crate::reader::{Description, Frame, Origin, Row};
 
 extern "C" {
     fn edf_open(
@@ -67,6 +67,21 @@ struct edf_description {
     configuration: u64,
     orientation: u64,
     offset: i64,
+    origins: edf_origins,
+}
+
+/// Where each field came from, as edf.h has it.
+#[allow(non_camel_case_types)]
+#[derive(Clone, PartialEq)]
+#[repr(C)]
+struct edf_origins {
+    datatype: u64,
+    byteorder: u64,
+    compression: u64,
+    dims: u64,
+    configuration: u64,
+    orientation: u64,
+    offset: u64,
 }
 
 /// What stands in a number before a call that is to leave it as it is.
@@ -178,11 +193,35 @@ fn description_pattern(index: usize) -> edf_description {
     let number = number_pattern(index);
     edf_description {
         datatype: number, byteorder: number, compression: number, n: number, dim1: number, dim2: number, dim3: number,
-        configuration: number, orientation: number, offset: number as i64,
+        configuration: number, orientation: number, offset: number as i64, origins: origins_pattern(number),
     }
 }
 
-/// The description that a call wrote, none where anything beside it has changed.
+fn origins_pattern(number: u64) -> edf_origins {
+    edf_origins {
+        datatype: number, byteorder: number, compression: number, dims: number, configuration: number, orientation: number,
+        offset: number,
+    }
+}
+
+/// The origin that a number stands for, EDF_ORIGIN_OWN to EDF_ORIGIN_DEFAULT; none for any other number.
+fn origin(number: u64) -> Option<Origin> {
+    match number {
+        1 => Some(Origin::Own),
+        2 => Some(Origin::General),
+        3 => Some(Origin::Default),
+        _ => None,
+    }
+}
+
+fn origins(o: &edf_origins) -> Option<[Origin; 7]> {
+    Some([
+        origin(o.datatype)?, origin(o.byteorder)?, origin(o.compression)?, origin(o.dims)?, origin(o.configuration)?,
+        origin(o.orientation)?, origin(o.offset)?,
+    ])
+}
+
+/// The description that a call wrote, none where an origin is none or anything beside it has changed.
 fn description(lent: &Lent<edf_description>) -> Option<Description> {
     let d = lent.written(1)?.first()?;
     Some(Description {
@@ -196,6 +235,7 @@ fn description(lent: &Lent<edf_description>) -> Option<Description> {
         configuration: u32::try_from(d.configuration).unwrap_or(u32::MAX),
         orientation: u32::try_from(d.orientation).unwrap_or(u32::MAX),
         offset: d.offset,
+        origins: origins(&d.origins)?,
     })
 }
 
@@ -204,7 +244,7 @@ fn describe(file: &[u8], block: usize) -> Answer {
     match unsafe { edf_describe(file.as_ptr(), file.len(), block, lent.start(), &mut position) } {
         0 => match description(&lent) {
             Some(description) => if_kept(position == KEPT, Answer::Description(description)),
-            None => Answer::Broken("something beside the description was changed"),
+            None => Answer::Broken("no origin, or something beside the description was changed"),
         },
         code => if_kept(lent.written(0).is_some(), Answer::Failed { code, position }),
     }
@@ -223,7 +263,7 @@ fn stored_array(file: &[u8], block: usize, order: u8) -> Answer {
         return if_kept(kept, Answer::Failed { code, position });
     }
     let Some(description) = description(&lent) else {
-        return Answer::Broken("something beside the description was changed");
+        return Answer::Broken("no origin, or something beside the description was changed");
     };
     let delivered = match (delivered, file.get(start..start.saturating_add(length))) {
         (_, None) => return Answer::Broken("an array that is not inside the file"),
@@ -321,6 +361,16 @@ mod tests {
             *position_out = position;
             code
         })
+    }
+
+    #[test]
+    fn origins_by_number() {
+        let numbers = edf_origins { datatype: 1, byteorder: 2, compression: 3, dims: 1, configuration: 3, orientation: 2, offset: 1 };
+        let expected = [Origin::Own, Origin::General, Origin::Default, Origin::Own, Origin::Default, Origin::General, Origin::Own];
+        assert_eq!(origins(&numbers), Some(expected));
+        for number in [0, 4, u64::MAX] {
+            assert_eq!(origins(&edf_origins { dims: number, ..origins_pattern(1) }), None);
+        }
     }
 
     #[test]

@@ -2,6 +2,7 @@
 
 use crate::answer::{Answer, Call};
 use crate::both::both;
+use crate::reader::origin::letter;
 use crate::reader::{Description, Row};
 use std::fmt::Display;
 
@@ -15,10 +16,11 @@ fn row(r: &Row) -> String {
     format!("{place} {} {} {} {}", r.kind, r.sequence, r.instance, r.memory)
 }
 
-/// Type, order, compression, N, Dims, configuration, orientation, offset.
+/// Type, order, compression, N, Dims, configuration, orientation, offset, and the letters of the seven fields' origins.
 fn description(d: &Description) -> String {
     let (codes, dims) = (joined([d.data_type, d.order, d.compression, d.n]), joined([d.dim_1, d.dim_2, d.dim_3]));
-    format!("{codes} {dims} {} {} {}", d.configuration, d.orientation, d.offset)
+    let letters: String = d.origins.map(letter).iter().collect();
+    format!("{codes} {dims} {} {} {} {letters}", d.configuration, d.orientation, d.offset)
 }
 
 /// An answer; bytes are numbers, and a float is its value.

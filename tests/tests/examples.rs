@@ -1,4 +1,4 @@
-//! The examples of 01, "Examples both sides", one by one, by the second reader and by the library.
+//! The examples of 01, "Examples both sides", one by one, by the second reader and by the library. Listings have the letters of 02, No. 1.
 
 use edf_tests::both::*;
 use edf_tests::files::{array, padded};
@@ -58,7 +58,7 @@ fn listing_of_the_writers_file() {
         sequence: 1, instance: 1, memory: 1, data_type: 3, order: 1, n: 2, dim_1: 3, dim_2: 2, dim_3: 0, configuration: 6,
     };
     let written = write(frame, b"x;", &[0, 1, 0, 2, 0, 3, 0, 4, 0, 5, 0, 6], 1_024).unwrap();
-    let expected = "blocks 1\n0 0 512 512 1.Image.Psd UnsignedShort HighByteFirst 3x2 6 1 0\n";
+    let expected = "blocks 1\n0 0 512 512 1.Image.Psd UnsignedShorto HighByteFirsto 3x2o 6o 1d 0d\n";
     assert_eq!(list(&written, expected.len()), Ok(expected.as_bytes().to_vec()));
 }
 

@@ -1,18 +1,9 @@
 //! Every fixture: its listing, byte for byte, and every call on it, by the second reader and by the library.
 
 use edf_tests::both::{both, list};
+use edf_tests::files::fixtures;
 use edf_tests::generate::thorough::every_call;
 use std::fs;
-use std::path::{Path, PathBuf};
-
-fn fixtures() -> Vec<PathBuf> {
-    let folder = Path::new(env!("CARGO_MANIFEST_DIR")).join("fixtures");
-    let mut files: Vec<PathBuf> = fs::read_dir(folder).unwrap().map(|entry| entry.unwrap().path()).collect();
-    files.retain(|path| path.extension().is_some_and(|extension| extension == "edf"));
-    files.sort();
-    assert!(files.len() >= 41);
-    files
-}
 
 #[test]
 fn every_listing() {

@@ -1,4 +1,5 @@
-//! The functions that the tests call are all functions of the verified library, with the arguments that include/edf.h gives them.
+//! The functions that the tests call are all functions of the verified library, with the arguments that include/edf.h gives them; the
+//! description has the members, and the numbers of origins and of the longest listing are those, that include/edf.h gives.
 
 use std::collections::{BTreeMap, BTreeSet};
 use std::fs;
@@ -40,7 +41,7 @@ fn typed(c: &str) -> (&str, &str) {
 }
 
 fn of_header(text: &str) -> Signatures {
-    let code: String = text.split("/*").map(|piece| piece.split_once("*/").map_or(piece, |(_, code)| code)).collect();
+    let code = without_comments(text);
     let declarations = code.split(';').filter_map(parts).filter(|(before, _)| before.contains("edf_"));
     let signature = |(before, arguments): (&str, Vec<&str>)| {
         let (answer, name) = typed(before);
@@ -59,6 +60,25 @@ fn of_tests(text: &str) -> Signatures {
         Some((before.strip_prefix("fn ")?.to_string(), types.chain([answer]).map(str::to_string).collect()))
     };
     block.split(';').filter_map(signature).collect()
+}
+
+/// A C text without its comments.
+fn without_comments(text: &str) -> String {
+    text.split("/*").map(|piece| piece.split_once("*/").map_or(piece, |(_, code)| code)).collect()
+}
+
+/// The members of a structure of edf.h, in order, with their types.
+fn members_in_header(text: &str, name: &str) -> Vec<String> {
+    let code = without_comments(text);
+    let body = code.split_once(&format!("}} {name};")).unwrap().0.rsplit_once('{').unwrap().1;
+    let declared = body.split(';').map(str::trim).filter_map(|declaration| declaration.split_once(' '));
+    declared.flat_map(|(kind, names)| names.split(',').map(move |member| format!("{}: {}", member.trim(), rust_type(kind)))).collect()
+}
+
+/// The same, as the tests declare them.
+fn members_in_tests(text: &str, name: &str) -> Vec<String> {
+    let body = text.split_once(&format!("struct {name} {{")).unwrap().1.split_once('}').unwrap().0;
+    body.split(',').map(str::trim).filter(|member| !member.is_empty()).map(str::to_string).collect()
 }
 
 /// The source of the library for C, all files of it.
@@ -83,4 +103,24 @@ fn the_same_functions() {
     assert_eq!(header, of_tests(&read("src/library.rs")));
     assert!(header.len() >= 10);
     assert_eq!(header["edf_find"], ["*const u8", "usize", "usize", "*const u8", "usize", "*mut usize", "*mut usize", "*mut usize", "u8"]);
+}
+
+#[test]
+fn the_same_description() {
+    let (header, tests) = (read("../include/edf.h"), read("src/library.rs"));
+    for (name, count) in [("edf_description", 11), ("edf_origins", 7)] {
+        let members = members_in_header(&header, name);
+        assert_eq!(members, members_in_tests(&tests, name));
+        assert_eq!(members.len(), count);
+    }
+}
+
+#[test]
+fn the_same_numbers() {
+    let header = without_comments(&read("../include/edf.h"));
+    let numbers = [("EDF_ORIGIN_OWN", 1), ("EDF_ORIGIN_GENERAL", 2), ("EDF_ORIGIN_DEFAULT", 3), ("EDF_LIST_CAPACITY", 28 + 300 * 256)];
+    for (name, number) in numbers {
+        let given = header.split([',', '{', '}']).map(str::trim).find_map(|part| part.strip_prefix(name)?.strip_prefix(" = "));
+        assert_eq!(given, Some(number.to_string().as_str()), "{name}");
+    }
 }

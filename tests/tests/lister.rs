@@ -1,22 +1,19 @@
 //! The lister, the program that `rt check edf_list` builds: for each input it prints what the second reader gives.
 
+use edf_tests::files::fixtures;
 use edf_tests::generate::case;
 use edf_tests::parallel;
 use edf_tests::reader::printed;
 use std::fs;
 use std::io::{ErrorKind, Write};
-use std::path::{Path, PathBuf};
+use std::path::Path;
 use std::process::{Command, Stdio};
 use std::thread::sleep;
 use std::time::Duration;
 
-fn folder(name: &str) -> PathBuf {
-    Path::new(env!("CARGO_MANIFEST_DIR")).join(name)
-}
-
 /// What the program prints for an input that comes in pieces, with a little time between them.
 fn in_pieces(input: &[u8], length: usize) -> String {
-    let program = folder("../target/bin/edf_list");
+    let program = Path::new(env!("CARGO_MANIFEST_DIR")).join("../target/bin/edf_list");
     let mut command = Command::new(&program);
     let pipes = command.stdin(Stdio::piped()).stdout(Stdio::piped()).stderr(Stdio::piped());
     let mut running = pipes.spawn().unwrap_or_else(|error| panic!("{}: {error}", program.display()));
@@ -45,10 +42,7 @@ fn expected(input: &[u8]) -> String {
 
 #[test]
 fn every_fixture() {
-    let entries = fs::read_dir(folder("fixtures")).unwrap().map(|entry| entry.unwrap().path());
-    let files: Vec<PathBuf> = entries.filter(|path| path.extension().is_some_and(|extension| extension == "edf")).collect();
-    assert!(files.len() >= 41);
-    for path in files {
+    for path in fixtures() {
         let listing = fs::read_to_string(path.with_extension("list")).unwrap();
         assert_eq!(given(&fs::read(&path).unwrap()), listing, "{}", path.display());
     }
@@ -67,7 +61,7 @@ fn file_of(length: usize) -> Vec<u8> {
 fn both_sides_of_the_limit() {
     assert_eq!(given(b""), "refused 3 0\n");
     for length in [65_535, 65_536] {
-        let line = format!("blocks 1\n0 0 512 {} - FloatIEEE32 HighByteFirst 0 1 1 0\n", length - 512);
+        let line = format!("blocks 1\n0 0 512 {} - FloatIEEE32d HighByteFirstd 0d 1d 1d 0d\n", length - 512);
         assert_eq!(given(&file_of(length)), line);
         assert_eq!(given(&vec![b'x'; length]), "refused 3 0\n");
     }

@@ -145,8 +145,26 @@ fn twenty_two_to_twenty_five() {
     assert_eq!(outcome(text(&title, 0, b"a", 1_023)), GOOD);
     assert_eq!(outcome(text(&title, 0, b"a", 1_022)), (22, 0));
     assert_eq!(outcome(text(&title, 0, b"b", 0)), (25, 0));
-    assert_eq!(outcome(list(&file, 65)), GOOD);
-    assert_eq!(outcome(list(&file, 64)), (22, 0));
+    assert_eq!(outcome(list(&file, 71)), GOOD);
+    assert_eq!(outcome(list(&file, 70)), (22, 0));
+}
+
+/// 256 lines as long as a small file can make them: 76,828 bytes, 28 for the first line and 300 for each block, are room for them.
+#[test]
+fn twenty_two_for_a_long_listing() {
+    let fields = "DataType=UnsignedInteger;ByteOrder=HighByteFirst;Dim_1=10;Dim_2=10;Dim_3=10;\
+        DataRasterConfiguration=48;RasterOrientation=48;DataValueOffset=-9223372036854775808;";
+    let block = |number: i64| {
+        let identity = format!("{}.Image.Error.9223372036854775807", i64::MIN + number);
+        [data(&identity, &format!("EDF_BinarySize=4000;{fields}")), vec![0; 4_000]].concat()
+    };
+    let file: Vec<u8> = (0..256).flat_map(block).collect();
+    let listing = list(&file, 28 + 300 * 256).unwrap();
+    let last = "255 1150560 512 4000 -9223372036854775553.Image.Error.9223372036854775807 \
+        UnsignedIntegero HighByteFirsto 10x10x10o 48o 48o -9223372036854775808o\n";
+    assert!(listing.ends_with(last.as_bytes()), "{}", String::from_utf8_lossy(&listing));
+    assert_eq!(outcome(list(&file, listing.len())), GOOD);
+    assert_eq!(outcome(list(&file, listing.len() - 1)), (22, 0));
 }
 
 /// A file that is written has at most 1,073,741,824 bytes: 512 of header and 172,544 times 6,223 pixels, and one pixel more.

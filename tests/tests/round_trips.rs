@@ -3,7 +3,8 @@
 use edf_tests::both::*;
 use edf_tests::parallel;
 use edf_tests::reader::element::TYPES;
-use edf_tests::reader::{Frame, Pixel};
+use edf_tests::reader::Origin::{Default, Own};
+use edf_tests::reader::{Frame, Origin, Pixel};
 
 /// Room for each file and value.
 const ROOM: usize = 1 << 18;
@@ -92,6 +93,9 @@ fn pixels_come_back() {
     }
 }
 
+/// "a file of our writer has own for all but Compression, RasterOrientation and DataValueOffset".
+const WRITTEN: [Origin; 7] = [Own, Own, Default, Own, Own, Default, Default];
+
 #[test]
 fn frames_come_back() {
     for frame in frames() {
@@ -100,6 +104,7 @@ fn frames_come_back() {
         assert_eq!((row.sequence, row.instance, row.memory), (frame.sequence, frame.instance, frame.memory));
         let d = describe(&file, 0).unwrap();
         assert_eq!((d.data_type, d.order, d.n, d.configuration), (frame.data_type, frame.order, frame.n, frame.configuration));
+        assert_eq!(d.origins, WRITTEN, "{frame:?}");
         assert_eq!(file.len(), row.header_length + row.data_length);
         assert_eq!((row.header_length % 512, row.data_length % 512), (0, 0));
     }

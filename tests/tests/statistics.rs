@@ -1,9 +1,10 @@
 //! The generated cases reach often: every number of refusal, success of every call, both kinds of file, few and many blocks, every type,
-//! every configuration, every class of pixel.
+//! every configuration, every class of pixel, every origin of every field.
 
 use edf_tests::answer::{answer, Answer, Call};
 use edf_tests::generate::{case, Case};
 use edf_tests::parallel;
+use edf_tests::reader::Origin;
 use std::collections::{BTreeMap, BTreeSet};
 
 /// The first of the cases that the library is compared on.
@@ -12,6 +13,12 @@ const CASES: usize = 20_000;
 const OFTEN: usize = 50;
 
 type Outcome = (&'static str, u8);
+
+/// The seven described fields, in the order of 01's table.
+const FIELDS: [&str; 7] =
+    ["DataType", "ByteOrder", "Compression", "Dim", "DataRasterConfiguration", "RasterOrientation", "DataValueOffset"];
+
+const ORIGINS: [Origin; 3] = [Origin::Own, Origin::General, Origin::Default];
 
 fn name(call: &Call) -> &'static str {
     match call {
@@ -47,7 +54,8 @@ fn features(answer: &Answer) -> Vec<String> {
         Answer::Rows(rows) => vec![format!("kind {}", if rows[0].kind == 1 && rows[0].instance == 0 { 1 } else { 2 })],
         Answer::Description(d) => {
             let configuration = format!("N {} configuration {}", d.n, d.configuration);
-            vec![format!("type {}", d.data_type), format!("order {}", d.order), configuration]
+            let origins = FIELDS.iter().zip(d.origins).map(|(field, origin)| format!("{field} {origin:?}"));
+            [format!("type {}", d.data_type), format!("order {}", d.order), configuration].into_iter().chain(origins).collect()
         }
         Answer::Stored { delivered: Some(_), .. } => vec!["stored as delivered".to_string()],
         Answer::Stored { delivered: None, .. } => vec!["stored otherwise".to_string()],
@@ -64,6 +72,7 @@ fn all_features() -> Vec<(String, usize)> {
     let few = ["kind 1", "kind 2", "order 1", "order 2", "stored as delivered", "stored otherwise", "unsigned pixel", "signed pixel", "32-bit float pixel", "64-bit float pixel"];
     let mut all: Vec<(String, usize)> = few.map(|feature| (feature.to_string(), 10 * OFTEN)).to_vec();
     all.extend((1..=10).map(|code| (format!("type {code}"), 4 * OFTEN)));
+    all.extend(FIELDS.iter().flat_map(|field| ORIGINS.map(|origin| (format!("{field} {origin:?}"), 4 * OFTEN))));
     for (n, configurations) in [(1, 2), (2, 8), (3, 48)] {
         all.extend((1..=configurations).map(|number| (format!("N {n} configuration {number}"), OFTEN / 5)));
     }

@@ -2,16 +2,17 @@
 
 use super::plan::Plan;
 use super::random::Random;
-use super::{edf_keys, fields, shapes};
+use super::{edf_keys, fields, origins, shapes};
 
 type Mutation = fn(&mut Random, &mut Plan) -> Option<()>;
 
-const MUTATIONS: [Mutation; 31] = [
+const MUTATIONS: [Mutation; 36] = [
     shapes::lead, shapes::stop, shapes::close, shapes::window, shapes::no_statement, shapes::long, shapes::again, shapes::crowd,
     edf_keys::number, edf_keys::identity, edf_keys::version, edf_keys::first_keys, edf_keys::external, edf_keys::length,
     edf_keys::boundary, edf_keys::header_size, edf_keys::extent, edf_keys::same_identity, edf_keys::many, edf_keys::count,
     edf_keys::late, edf_keys::blocks, edf_keys::whole_length, fields::word, fields::dim, fields::four_dims,
     fields::configuration, fields::offset, fields::short_data, fields::long_text, fields::missing,
+    origins::handed_over, origins::in_both, origins::written_default, origins::dims_apart, origins::not_inherited,
 ];
 
 /// Draws until a mutation fits the plan.

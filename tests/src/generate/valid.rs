@@ -3,13 +3,22 @@
 use super::dress;
 use super::plan::{BlockPlan, Plan, Statement, OWN_LENGTH};
 use super::random::Random;
-use super::words::{numeral, TYPES, WIDTHS};
+use super::words::{numeral, DEFAULT_TYPE, FIELDS, TYPES, WIDTHS};
+
+/// A key and its value.
+type Field = (String, String);
 
 /// The fields of an array and its length in bytes.
 #[derive(Clone)]
 struct Array {
-    fields: Vec<(String, String)>,
+    fields: Vec<Field>,
     length: usize,
+}
+
+/// What blocks of a file share: an array, and those of its fields that the general header gives.
+struct Shared {
+    array: Array,
+    given: Vec<Field>,
 }
 
 /// A valid plan; a description may still be refused where own and general fields mix.
@@ -19,10 +28,10 @@ pub fn valid(random: &mut Random) -> Plan {
     let small = general && random.percent(50);
     let boundary = if small { random.pick(&[1, 2, 7, 16, 64, 100, 512, 1_024]) } else { 512 };
     let count = block_count(random, boundary);
-    let shared = array(random);
+    let shared = shared(random, general);
     let mut blocks = Vec::new();
     if general {
-        blocks.push(general_block(random, boundary, count, &shared));
+        blocks.push(general_block(random, boundary, count, &shared.given));
     }
     let first = random.pick(&[0, 1, 1, 1, -3, i64::MIN, 1_000_000]);
     for number in 0..count as i64 {
@@ -30,6 +39,12 @@ pub fn valid(random: &mut Random) -> Plan {
         blocks.push(data_block(random, kind, boundary, &identity, &shared, count > 30));
     }
     Plan { kind, general, blocks, after: vec![] }
+}
+
+fn shared(random: &mut Random, general: bool) -> Shared {
+    let array = array(random);
+    let given = array.fields.iter().filter(|_| general && random.percent(60)).cloned().collect();
+    Shared { array, given }
 }
 
 /// Few blocks mostly; many where headers may be short, and else seldom.
@@ -69,7 +84,7 @@ fn patterns(random: &mut Random, block: &mut BlockPlan) {
     block.tail = random.pick(&[&b""[..], b"\r\n", b"\t \x0b\x0c"]).to_vec();
 }
 
-fn general_block(random: &mut Random, boundary: usize, count: usize, shared: &Array) -> BlockPlan {
+fn general_block(random: &mut Random, boundary: usize, count: usize, given: &[Field]) -> BlockPlan {
     let mut block = BlockPlan::new(boundary);
     patterns(random, &mut block);
     let blocks = if count == 1 && random.percent(30) { "Undetermined".to_string() } else { numeral(random, count as i64) };
@@ -82,12 +97,11 @@ fn general_block(random: &mut Random, boundary: usize, count: usize, shared: &Ar
     common_top(random, &mut top, &mut block);
     block.statements = vec![statement(random, "EDF_DataFormatVersion", version), statement(random, "EDF_DataBlocks", &blocks)];
     block.statements.extend(shuffled(random, top));
-    let some = shared.fields.iter().filter(|_| random.percent(50)).cloned().collect::<Vec<_>>();
-    add_fields(random, &mut block, &some);
+    add_fields(random, &mut block, given);
     block
 }
 
-/// EDF_ keys that may stand in any header of kind 2.
+/// EDF_ keys that may stand in any header of kind 2; EDF_ and the name of a field is as unknown as any other.
 fn common_top(random: &mut Random, top: &mut Vec<Statement>, block: &mut BlockPlan) {
     if random.percent(10) {
         let length = random.below(5);
@@ -100,15 +114,26 @@ fn common_top(random: &mut Random, top: &mut Vec<Statement>, block: &mut BlockPl
     if random.percent(25) {
         top.push(Statement::new(b"EDF_HeaderSize ", OWN_LENGTH));
     }
-    if random.percent(15) {
-        top.push(statement(random, "EDF_Unknown", "junk"));
+    if random.percent(25) {
+        let name = if random.percent(50) { "Unknown" } else { random.pick(&FIELDS) };
+        top.push(statement(random, &format!("EDF_{name}"), "junk"));
     }
 }
 
-fn data_block(random: &mut Random, kind: u8, boundary: usize, identity: &str, shared: &Array, tiny: bool) -> BlockPlan {
+/// The shared array, some of what the general header gives left to it, or an array of its own.
+fn array_in(random: &mut Random, shared: &Shared) -> Array {
+    if random.percent(50) {
+        return array(random);
+    }
+    let mut own = shared.array.clone();
+    own.fields.retain(|field| !shared.given.contains(field) || random.percent(40));
+    own
+}
+
+fn data_block(random: &mut Random, kind: u8, boundary: usize, identity: &str, shared: &Shared, tiny: bool) -> BlockPlan {
     let mut block = BlockPlan::new(boundary);
     patterns(random, &mut block);
-    let own = if random.percent(50) { shared.clone() } else { array(random) };
+    let own = array_in(random, shared);
     if !tiny {
         let more = random.pick(&[0, 0, 1, 7]);
         block.data = data(random, own.length + more);
@@ -136,7 +161,7 @@ fn data_block(random: &mut Random, kind: u8, boundary: usize, identity: &str, sh
     block
 }
 
-fn add_fields(random: &mut Random, block: &mut BlockPlan, fields: &[(String, String)]) {
+fn add_fields(random: &mut Random, block: &mut BlockPlan, fields: &[Field]) {
     let mut statements: Vec<Statement> = fields.iter().map(|(key, value)| statement(random, key, value)).collect();
     if random.percent(40) {
         let length = random.pick(&[0, 1, 5, 40]);
@@ -169,7 +194,10 @@ fn array(random: &mut Random) -> Array {
     let n = random.pick(&[0, 1, 2, 2, 2, 3, 3]);
     let dims = dims(random, n);
     let configurations = [2, 2, 8, 48][n] as usize;
-    let mut fields = vec![("DataType".to_string(), TYPES[code].to_string())];
+    let mut fields: Vec<Field> = vec![];
+    if TYPES[code] != DEFAULT_TYPE || random.percent(50) {
+        fields.push(("DataType".to_string(), TYPES[code].to_string()));
+    }
     let mut maybe = |random: &mut Random, key: &str, value: String| {
         if random.percent(70) {
             fields.push((key.to_string(), value));
@@ -179,19 +207,22 @@ fn array(random: &mut Random) -> Array {
     maybe(random, "ByteOrder", order.to_string());
     let configuration = random.from_to(1, configurations);
     maybe(random, "DataRasterConfiguration", configuration.to_string());
-    if random.percent(30) {
+    if random.percent(50) {
         let orientation = random.from_to(1, configurations);
         maybe(random, "RasterOrientation", orientation.to_string());
         maybe(random, "Compression", "None".to_string());
     }
     let float = TYPES[code].starts_with("Float");
-    if !float && random.percent(40) {
+    if !float && random.percent(60) {
         let shift = random.pick(&[0, 1, -1, 10, -5, 128, -300, 70_000, i64::MAX, i64::MIN]);
         let written = numeral(random, shift);
         maybe(random, "DataValueOffset", written);
     }
     for (dim, number) in dims.iter().zip(1..) {
         fields.push((format!("Dim_{number}"), numeral(random, *dim as i64)));
+    }
+    if n == 0 && random.percent(30) {
+        fields.push(("Dim_2".to_string(), "3".to_string()));
     }
     let elements: usize = if n == 0 { 0 } else { dims.iter().product() };
     Array { fields, length: elements * WIDTHS[code] }

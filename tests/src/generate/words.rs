@@ -7,6 +7,9 @@ pub const TYPES: [&str; 10] = [
     "Unsigned64", "Signed64", "FloatIEEE64",
 ];
 
+/// The type of an array that has no DataType.
+pub const DEFAULT_TYPE: &str = "FloatIEEE32";
+
 pub const WIDTHS: [usize; 10] = [1, 1, 2, 2, 4, 4, 4, 8, 8, 8];
 
 pub const UNKNOWN_WORDS: [&str; 16] = [
@@ -47,6 +50,17 @@ pub const IDENTITIES: [&str; 26] = [
 pub const VERSIONS: [&str; 18] = [
     "2.42", "1.00", "0.42", "00.42", "002.42", "10.00", "2.4", "2.423", "2", ".42", "+2.42", "2.42.", "2.4x", "a.42", "",
     "2..4", "99999999999999999999.00", "2 .42",
+];
+
+/// The keys of the described fields.
+pub const FIELDS: [&str; 9] = [
+    "DataType", "ByteOrder", "Compression", "Dim_1", "Dim_2", "Dim_3", "DataRasterConfiguration", "RasterOrientation", "DataValueOffset",
+];
+
+/// Fields with the values that they have where they are absent; for a Dim no value can be written that says the same.
+pub const DEFAULTS: [(&str, &str); 6] = [
+    ("DataType", DEFAULT_TYPE), ("ByteOrder", "HighByteFirst"), ("Compression", "None"), ("DataRasterConfiguration", "1"),
+    ("RasterOrientation", "1"), ("DataValueOffset", "0"),
 ];
 
 pub const KEYS: [&str; 24] = [

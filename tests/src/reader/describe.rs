@@ -7,13 +7,15 @@ use super::memo::cut;
 use super::number::parse_whole;
 use super::opening::Block;
 use super::orders::all_orders;
+use super::origin::{origins, Origin};
 use super::rules::Role;
 use super::span::part;
 
 /// "Dim_1 to Dim_3 | 1 to 1,048,576".
 pub const LARGEST_DIM: i64 = 1_048_576;
 
-/// The fields of an array. Codes count from 1 in the order of 01's table; Dims past N are 1 (000's default).
+/// The fields of an array. Codes count from 1 in the order of 01's table; Dims past N are 1 (000's default). The origins are those of
+/// the seven fields, in the table's order.
 #[derive(Clone, Copy, Debug, PartialEq, Eq)]
 pub struct Description {
     pub data_type: u8,
@@ -26,6 +28,7 @@ pub struct Description {
     pub configuration: u32,
     pub orientation: u32,
     pub offset: i64,
+    pub origins: [Origin; 7],
 }
 
 impl Description {
@@ -82,7 +85,8 @@ impl Fields<'_> {
         let configuration = self.number(5, "DataRasterConfiguration", 1, configurations, 1)? as u32;
         let orientation = self.number(6, "RasterOrientation", 1, configurations, 1)? as u32;
         let offset = self.number(7, "DataValueOffset", i64::MIN, i64::MAX, 0)?;
-        Ok(Description { data_type, order, compression, n, dim_1, dim_2, dim_3, configuration, orientation, offset })
+        let origins = origins(self.blocks, self.block);
+        Ok(Description { data_type, order, compression, n, dim_1, dim_2, dim_3, configuration, orientation, offset, origins })
     }
 
     fn value(&self, key: &str) -> Option<&[u8]> {
@@ -148,7 +152,7 @@ mod tests {
     fn defaults() {
         let empty = Description {
             data_type: 7, order: 1, compression: 1, n: 1, dim_1: 0, dim_2: 1, dim_3: 1,
-            configuration: 1, orientation: 1, offset: 0,
+            configuration: 1, orientation: 1, offset: 0, origins: [Origin::Default; 7],
         };
         assert_eq!(described(""), empty);
         assert_eq!(described("Dim_2=x;Dim_3=x;Dim_4=x;"), empty);

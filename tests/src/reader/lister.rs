@@ -6,6 +6,7 @@ use super::error::{demand, Error};
 use super::identity::identity_text;
 use super::memo::cut;
 use super::opening::Block;
+use super::origin::letter;
 use super::rules::Role;
 
 /// "It reads standard input, up to 65,536 bytes (more: `refused 1 0`)."
@@ -70,12 +71,18 @@ fn name(block: &Block) -> String {
     }
 }
 
-/// "type, order, Dims joined by `x`, configuration, orientation, offset".
+/// "type, order, Dims joined by `x`, configuration, orientation, offset", and 02: "o, g or d straight after each field's text".
+/// Compression has no text here, so it has no letter.
 fn description_text(d: &Description) -> String {
-    let kind = type_of(d.data_type).map_or("", |kind| kind.name);
-    let order = BYTE_ORDERS[usize::from(d.order == 2)];
+    let kind = type_of(d.data_type).map_or("", |kind| kind.name).to_string();
+    let order = BYTE_ORDERS[usize::from(d.order == 2)].to_string();
     let dims: Vec<String> = d.dims()[..usize::from(d.n)].iter().map(|dim| dim.to_string()).collect();
-    format!("{kind} {order} {} {} {} {}", dims.join("x"), d.configuration, d.orientation, d.offset)
+    let [configuration, orientation] = [d.configuration, d.orientation].map(|number| number.to_string());
+    let texts = [kind, order, dims.join("x"), configuration, orientation, d.offset.to_string()];
+    let [of_type, of_order, _of_compression, of_dims, of_configuration, of_orientation, of_offset] = d.origins.map(letter);
+    let letters = [of_type, of_order, of_dims, of_configuration, of_orientation, of_offset];
+    let columns: Vec<String> = texts.iter().zip(letters).map(|(text, letter)| format!("{text}{letter}")).collect();
+    columns.join(" ")
 }
 
 #[cfg(test)]
@@ -94,15 +101,24 @@ mod tests {
             sequence: 1, instance: 1, memory: 1, data_type: 3, order: 1, n: 2, dim_1: 3, dim_2: 2, dim_3: 0, configuration: 6,
         };
         let file = write(frame, b"x;", &[0, 1, 0, 2, 0, 3, 0, 4, 0, 5, 0, 6], 9_999).unwrap();
-        let expected = "blocks 1\n0 0 512 512 1.Image.Psd UnsignedShort HighByteFirst 3x2 6 1 0\n";
+        let expected = "blocks 1\n0 0 512 512 1.Image.Psd UnsignedShorto HighByteFirsto 3x2o 6o 1d 0d\n";
         assert_eq!(listed(&file), expected);
     }
 
     #[test]
     fn general_and_empty_array() {
         let file = [general("1", 512, ""), one_block("", b"")].concat();
-        let expected = "blocks 2\n0 0 512 0 general\n1 512 512 0 1.Image.Psd FloatIEEE32 HighByteFirst 0 1 1 0\n";
+        let expected = "blocks 2\n0 0 512 0 general\n1 512 512 0 1.Image.Psd FloatIEEE32d HighByteFirstd 0d 1d 1d 0d\n";
         assert_eq!(listed(&file), expected);
+    }
+
+    #[test]
+    fn letters() {
+        let shared = "DataType=UnsignedByte;Compression=None;RasterOrientation=1;Dim_1=3;";
+        let own = "ByteOrder=HighByteFirst;Dim_2=2;DataValueOffset=-1;";
+        let file = [general("1", 512, shared), one_block(own, &[0; 6])].concat();
+        let line = "1 512 512 6 1.Image.Psd UnsignedByteg HighByteFirsto 3x2g 1d 1g -1o";
+        assert_eq!(listed(&file).lines().last(), Some(line));
     }
 
     #[test]
@@ -119,7 +135,7 @@ mod tests {
         let file = padded("", 512).repeat(129);
         assert_eq!(printed(&file), b"refused 1 0\n");
         let text = list(&file, usize::MAX).unwrap();
-        assert!(text.starts_with(b"blocks 129\n0 0 512 0 - FloatIEEE32 HighByteFirst 0 1 1 0\n1 512 512 0 - "));
+        assert!(text.starts_with(b"blocks 129\n0 0 512 0 - FloatIEEE32d HighByteFirstd 0d 1d 1d 0d\n1 512 512 0 - "));
         assert_eq!(list(&file, text.len()), Ok(text.clone()));
         assert_eq!(list(&file, text.len() - 1), Err(Error { code: 22, position: 0 }));
         assert_eq!(list(b"", 12), Ok(b"refused 3 0\n".to_vec()));

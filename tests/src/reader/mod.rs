@@ -1,4 +1,4 @@
-//! The second reader: plain and slow, each rule of 01 by itself.
+//! The second reader: plain and slow, each rule of 01 and 02 by itself.
 
 pub mod array;
 pub mod describe;
@@ -12,6 +12,7 @@ pub mod memo;
 pub mod number;
 pub mod opening;
 pub mod orders;
+pub mod origin;
 pub mod pixel;
 pub mod rules;
 pub mod span;
@@ -29,6 +30,7 @@ pub use error::Error;
 pub use keywords::{find, whole_number};
 pub use lister::{list, printed};
 pub use opening::{open, Row};
+pub use origin::Origin;
 pub use pixel::{read_pixel, Pixel};
 pub use span::{part, Span};
 pub use text::{escape, text, unescape};

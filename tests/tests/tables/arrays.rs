@@ -1,7 +1,7 @@
 //! Descriptions, delivered arrays and pixels: "The array".
 
 use edf_tests::answer::Call;
-use edf_tests::files::{array, general};
+use edf_tests::files::{array, data, general, plain};
 use edf_tests::told::expect;
 
 /// A block with 512 bytes of data: these numbers, then spaces.
@@ -11,50 +11,50 @@ fn block(fields: &str, stored: &str) -> Vec<u8> {
     array(fields, &bytes)
 }
 
-/// Fields, and the description: type, order, compression, N, Dims, configuration, orientation, offset.
+/// Fields, and the description: type, order, compression, N, Dims, configuration, orientation, offset, and the origins of the seven fields.
 const DESCRIBED: [(&str, &str); 43] = [
-    ("DataType=UnsignedByte;Dim_1=3;Dim_2=2;", "1 1 1 2 3 2 1 1 1 0"),
-    ("DataType=FloatIEEE64;Dim_1=64;", "10 1 1 1 64 1 1 1 1 0"),
-    ("datatype=Signed64;Dim_1=64;", "9 1 1 1 64 1 1 1 1 0"),
+    ("DataType=UnsignedByte;Dim_1=3;Dim_2=2;", "1 1 1 2 3 2 1 1 1 0 oddoddd"),
+    ("DataType=FloatIEEE64;Dim_1=64;", "10 1 1 1 64 1 1 1 1 0 oddoddd"),
+    ("datatype=Signed64;Dim_1=64;", "9 1 1 1 64 1 1 1 1 0 oddoddd"),
     ("DataType=unsignedbyte;Dim_1=3;", "refused 17 1"),
     ("DataType=UnsignedLong;Dim_1=3;", "refused 17 1"),
     ("DataType=Unsigned16;Dim_1=3;", "refused 17 1"),
     ("DataType=;Dim_1=3;", "refused 17 1"),
-    ("ByteOrder=LowByteFirst;Dim_1=3;", "7 2 1 1 3 1 1 1 1 0"),
+    ("ByteOrder=LowByteFirst;Dim_1=3;", "7 2 1 1 3 1 1 1 1 0 dododdd"),
     ("ByteOrder=LowByte;Dim_1=3;", "refused 17 2"),
-    ("Compression=None;Dim_1=3;", "7 1 1 1 3 1 1 1 1 0"),
+    ("Compression=None;Dim_1=3;", "7 1 1 1 3 1 1 1 1 0 ddooddd"),
     ("Compression=NoSpecificValue;Dim_1=3;", "refused 17 3"),
     ("DataType=x;ByteOrder=x;Compression=x;", "refused 17 1"),
     ("ByteOrder=x;Compression=x;Dim_1=0;", "refused 17 2"),
-    ("", "7 1 1 1 0 1 1 1 1 0"),
-    ("Dim_2=2;Dim_3=x;", "7 1 1 1 0 1 1 1 1 0"),
-    ("Dim_1=3;Dim_3=x;", "7 1 1 1 3 1 1 1 1 0"),
-    ("Dim_1=3;Dim_2=2;Dim_3=1;", "7 1 1 3 3 2 1 1 1 0"),
+    ("", "7 1 1 1 0 1 1 1 1 0 ddddddd"),
+    ("Dim_2=2;Dim_3=x;", "7 1 1 1 0 1 1 1 1 0 ddddddd"),
+    ("Dim_1=3;Dim_3=x;", "7 1 1 1 3 1 1 1 1 0 dddoddd"),
+    ("Dim_1=3;Dim_2=2;Dim_3=1;", "7 1 1 3 3 2 1 1 1 0 dddoddd"),
     ("Dim_1=3;Dim_2=2;Dim_3=1;Dim_4=x;", "refused 19 0"),
-    ("Dim_1=3;Dim_2=2;Dim_4=1;", "7 1 1 2 3 2 1 1 1 0"),
+    ("Dim_1=3;Dim_2=2;Dim_4=1;", "7 1 1 2 3 2 1 1 1 0 dddoddd"),
     ("Dim_1=0;", "refused 18 4"),
     ("Dim_1=-1;", "refused 18 4"),
     ("Dim_1=3;Dim_2=1048577;", "refused 18 4"),
     ("Dim_1=1;Dim_2=0;Dim_3=1;Dim_4=1;", "refused 18 4"),
-    ("Dim_1=2;DataRasterConfiguration=2;", "7 1 1 1 2 1 1 2 1 0"),
+    ("Dim_1=2;DataRasterConfiguration=2;", "7 1 1 1 2 1 1 2 1 0 dddoodd"),
     ("Dim_1=2;DataRasterConfiguration=3;", "refused 18 5"),
-    ("Dim_1=2;Dim_2=2;DataRasterConfiguration=8;", "7 1 1 2 2 2 1 8 1 0"),
+    ("Dim_1=2;Dim_2=2;DataRasterConfiguration=8;", "7 1 1 2 2 2 1 8 1 0 dddoodd"),
     ("Dim_1=2;Dim_2=2;DataRasterConfiguration=9;", "refused 18 5"),
-    ("Dim_1=2;Dim_2=2;Dim_3=2;DataRasterConfiguration=48;", "7 1 1 3 2 2 2 48 1 0"),
+    ("Dim_1=2;Dim_2=2;Dim_3=2;DataRasterConfiguration=48;", "7 1 1 3 2 2 2 48 1 0 dddoodd"),
     ("Dim_1=2;Dim_2=2;Dim_3=2;DataRasterConfiguration=49;", "refused 18 5"),
     ("Dim_1=2;DataRasterConfiguration=0;", "refused 18 5"),
-    ("Dim_1=2;RasterOrientation=2;", "7 1 1 1 2 1 1 1 2 0"),
+    ("Dim_1=2;RasterOrientation=2;", "7 1 1 1 2 1 1 1 2 0 dddodod"),
     ("Dim_1=2;RasterOrientation=3;", "refused 18 6"),
-    ("Dim_1=2;Dim_2=2;RasterOrientation=8;", "7 1 1 2 2 2 1 1 8 0"),
-    ("DataType=SignedShort;Dim_1=2;DataValueOffset=-9223372036854775808;", "4 1 1 1 2 1 1 1 1 -9223372036854775808"),
+    ("Dim_1=2;Dim_2=2;RasterOrientation=8;", "7 1 1 2 2 2 1 1 8 0 dddodod"),
+    ("DataType=SignedShort;Dim_1=2;DataValueOffset=-9223372036854775808;", "4 1 1 1 2 1 1 1 1 -9223372036854775808 oddoddo"),
     ("DataType=SignedShort;Dim_1=2;DataValueOffset=9223372036854775808;", "refused 18 7"),
-    ("Dim_1=2;DataValueOffset=0;", "7 1 1 1 2 1 1 1 1 0"),
+    ("Dim_1=2;DataValueOffset=0;", "7 1 1 1 2 1 1 1 1 0 dddoddo"),
     ("Dim_1=2;DataValueOffset=1;", "refused 21 0"),
-    ("Dim_1=128;", "7 1 1 1 128 1 1 1 1 0"),
+    ("Dim_1=128;", "7 1 1 1 128 1 1 1 1 0 dddoddd"),
     ("Dim_1=129;", "refused 20 0"),
     ("Dim_1=129;DataValueOffset=1;", "refused 20 0"),
     ("Dim_1=1048576;Dim_2=1048576;Dim_3=1048576;", "refused 20 0"),
-    ("DataType=UnsignedByte;Dim_1=512;", "1 1 1 1 512 1 1 1 1 0"),
+    ("DataType=UnsignedByte;Dim_1=512;", "1 1 1 1 512 1 1 1 1 0 oddoddd"),
     ("DataType=UnsignedByte;Dim_1=513;", "refused 20 0"),
 ];
 
@@ -66,18 +66,44 @@ fn descriptions() {
 }
 
 /// Fields of the general header and of the data block, the block described, and its description.
-const SHARED: [(&str, &str, usize, &str); 5] = [
-    ("DataType=UnsignedByte;Dim_1=3;", "Dim_2=2;", 1, "1 1 1 2 3 2 1 1 1 0"),
-    ("DataType=x;", "DataType=UnsignedByte;Dim_1=3;", 1, "1 1 1 1 3 1 1 1 1 0"),
+const SHARED: [(&str, &str, usize, &str); 19] = [
+    ("DataType=UnsignedByte;Dim_1=3;", "Dim_2=2;", 1, "1 1 1 2 3 2 1 1 1 0 gddgddd"),
+    ("DataType=UnsignedByte;Dim_2=2;", "Dim_1=3;", 1, "1 1 1 2 3 2 1 1 1 0 gddoddd"),
+    ("Dim_2=2;", "Dim_3=2;", 1, "7 1 1 1 0 1 1 1 1 0 ddddddd"),
+    ("DataType=x;", "DataType=UnsignedByte;Dim_1=3;", 1, "1 1 1 1 3 1 1 1 1 0 oddoddd"),
+    ("DataType=FloatIEEE32;", "", 1, "7 1 1 1 0 1 1 1 1 0 gdddddd"),
+    ("", "DataType=FloatIEEE32;", 1, "7 1 1 1 0 1 1 1 1 0 odddddd"),
+    ("ByteOrder=LowByteFirst;", "", 1, "7 2 1 1 0 1 1 1 1 0 dgddddd"),
+    ("ByteOrder=LowByteFirst;", "ByteOrder=HighByteFirst;", 1, "7 1 1 1 0 1 1 1 1 0 doddddd"),
+    ("Compression=None;", "", 1, "7 1 1 1 0 1 1 1 1 0 ddgdddd"),
+    ("Compression=None;", "Compression=None;", 1, "7 1 1 1 0 1 1 1 1 0 ddodddd"),
+    ("DataRasterConfiguration=2;", "", 1, "7 1 1 1 0 1 1 2 1 0 ddddgdd"),
+    ("RasterOrientation=2;", "DataRasterConfiguration=1;", 1, "7 1 1 1 0 1 1 1 2 0 ddddogd"),
+    ("DataValueOffset=0;", "RasterOrientation=1;", 1, "7 1 1 1 0 1 1 1 1 0 dddddog"),
+    ("DataValueOffset=1;", "DataValueOffset=0;", 1, "7 1 1 1 0 1 1 1 1 0 ddddddo"),
+    (" D I M _ 1 =3;", "dataTYPE\r\n=UnsignedByte;", 1, "1 1 1 1 3 1 1 1 1 0 oddgddd"),
+    ("EDF_Dim_1=3;", "EDF_DataType=UnsignedByte;", 1, "7 1 1 1 0 1 1 1 1 0 ddddddd"),
     ("DataType=UnsignedByte;", "DataType=;Dim_1=3;", 1, "refused 17 1"),
     ("DataType=UnsignedByte;Dim_1=3;", "", 0, "refused 16 0"),
-    ("", "", 2, "refused 16 0"),
+    ("DataType=UnsignedByte;Dim_1=3;", "", 2, "refused 16 0"),
 ];
 
 #[test]
 fn fields_of_the_general_header() {
     for (shared, own, number, expected) in SHARED {
         expect(&[general("1", shared), block(own, "")].concat(), Call::Describe { block: number }, expected);
+    }
+}
+
+/// A first block that is no general header, of either kind: the second block has nothing from it.
+#[test]
+fn fields_of_another_block() {
+    let (fields, described) = ("DataType=SignedByte;Dim_1=3;", "7 1 1 1 0 1 1 1 1 0 ddddddd");
+    let plain_blocks = [plain(format!("Size=3;{fields}")), vec![0; 3], plain("")].concat();
+    let data_blocks = [array(&format!("{fields}EDF_DataFormatVersion=2.42;"), &[0; 3]), data("2.Image.Psd", "")].concat();
+    for file in [plain_blocks, data_blocks] {
+        expect(&file, Call::Describe { block: 0 }, "2 1 1 1 3 1 1 1 1 0 oddoddd");
+        expect(&file, Call::Describe { block: 1 }, described);
     }
 }
 

@@ -35,7 +35,7 @@ fn the_file_byte_for_byte() {
     let mut expected = [header(&lines), vec![0, 3, 0, 6, 0, 2, 0, 5, 0, 1, 0, 4]].concat();
     expected.resize(1_024, 0);
     assert_eq!(write(FRAME, b"x;", &PIXELS, 1_024), Ok(expected.clone()));
-    expect(&expected, Call::Describe { block: 0 }, "3 1 1 2 3 2 1 6 1 0");
+    expect(&expected, Call::Describe { block: 0 }, "3 1 1 2 3 2 1 6 1 0 oodoodd");
     expect(&expected, Call::ReadArray { block: 0, order: 1, room: 14 }, "0 1 0 2 0 3 0 4 0 5 0 6");
     expect(&expected, Call::ReadPixel { block: 0, i1: 2, i2: 0, i3: 0 }, "unsigned 3");
     expect(&expected, Call::ReadPixel { block: 0, i1: 0, i2: 1, i3: 0 }, "unsigned 4");
