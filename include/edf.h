@@ -75,9 +75,13 @@ enum { EDF_GENERAL_BLOCK = 0, EDF_DATA_BLOCK = 1 };
 enum { EDF_PSD = 1, EDF_ERROR = 2 };
 enum { EDF_UNSIGNED = 1, EDF_SIGNED = 2, EDF_FLOAT32 = 3, EDF_FLOAT64 = 4 };
 
+/* Where a field of a description came from: the block's own header; the general header; or the default, because no header in reach
+ * has the keyword. A written value has its header's origin, also where it equals the default. */
+enum { EDF_ORIGIN_OWN = 1, EDF_ORIGIN_GENERAL = 2, EDF_ORIGIN_DEFAULT = 3 };
+
 /* The most blocks of a file and bytes of a file; buffers that always suffice for edf_text and edf_unescape, for edf_escape, and for
  * edf_list. */
-enum { EDF_MOST_BLOCKS = 256, EDF_MOST_BYTES = 1073741824, EDF_TEXT_CAPACITY = 1023, EDF_VALUE_CAPACITY = 2048, EDF_LIST_CAPACITY = 75292 };
+enum { EDF_MOST_BLOCKS = 256, EDF_MOST_BYTES = 1073741824, EDF_TEXT_CAPACITY = 1023, EDF_VALUE_CAPACITY = 2048, EDF_LIST_CAPACITY = 76828 };
 
 /* ---- Blocks */
 
@@ -97,8 +101,9 @@ typedef struct {
 uint8_t edf_open(const uint8_t *file, size_t file_length, uint64_t *rows, size_t rows_length, size_t *count, size_t *position);
 
 /* The listing of a file at the front of `out`, as the lister prints it but for a file of any length; *length is its bytes: `blocks`
- * and their number, then a line for each block; or, for a file that does not open, `refused`, code, position. EDF_LIST_CAPACITY bytes
- * always suffice. Errors: 22. */
+ * and their number, then a line for each block; or, for a file that does not open, `refused`, code, position. Straight after the
+ * type, byte order, dimensions, configuration, orientation and offset of a block a letter says where the field came from: `o` its
+ * own header, `g` the general header, `d` the default. EDF_LIST_CAPACITY bytes always suffice. Errors: 22. */
 uint8_t edf_list(const uint8_t *file, size_t file_length, uint8_t *out, size_t out_length, size_t *length, size_t *position);
 
 /* The length of the part of a file that `length` bytes from `offset` are: `length` where they lie inside the file, else 0. */
@@ -129,6 +134,17 @@ uint8_t edf_unescape(const uint8_t *value, size_t value_length, uint8_t *out, si
 
 /* ---- Arrays */
 
+/* The origins of the fields of a description, each EDF_ORIGIN_OWN, EDF_ORIGIN_GENERAL or EDF_ORIGIN_DEFAULT. */
+typedef struct {
+    uint64_t datatype;
+    uint64_t byteorder;
+    uint64_t compression;
+    uint64_t dims;          /* that of Dim_1 */
+    uint64_t configuration;
+    uint64_t orientation;
+    uint64_t offset;
+} edf_origins;
+
 /* The description of a block's array. The dimensions past `n` are 1. */
 typedef struct {
     uint64_t datatype;      /* EDF_UNSIGNED_BYTE to EDF_FLOAT_IEEE64 */
@@ -141,6 +157,7 @@ typedef struct {
     uint64_t configuration; /* the raster configuration, in which the array is stored */
     uint64_t orientation;   /* the raster orientation, reported and not applied */
     int64_t offset;         /* the value offset, added to each element that is delivered */
+    edf_origins origins;    /* where each of these fields came from */
 } edf_description;
 
 /* Describes the array of a block. In an error *description stays as it was. Errors: those of opening, 16 to 21. */
@@ -215,6 +232,9 @@ size_t edf_datatype_width(uint8_t datatype);
 
 /* The word of a byte order, "HighByteFirst" or "LowByteFirst"; "" for a code that is none. */
 const char *edf_byteorder_name(uint8_t byteorder);
+
+/* The words of an origin, "own header", "general header" or "default"; "" for a number that is none. */
+const char *edf_origin_name(uint64_t origin);
 
 #ifdef __cplusplus
 }

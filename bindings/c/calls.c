@@ -64,6 +64,15 @@ static void keywords(void) {
     CHECK(edf_unescape(BYTES(";"), out, EDF_TEXT_CAPACITY, &length, &position) == EDF_BAD_ARGUMENT);
 }
 
+/* Whether the origins are those of the seven letters, in the order of edf_origins. */
+static int has_origins(const edf_origins *origins, const char *letters) {
+    uint64_t numbers[7];
+    memcpy(numbers, origins, sizeof numbers);
+    for (int i = 0; i < 7; i++)
+        if (numbers[i] != (letters[i] == 'o' ? EDF_ORIGIN_OWN : letters[i] == 'g' ? EDF_ORIGIN_GENERAL : EDF_ORIGIN_DEFAULT)) return 0;
+    return 1;
+}
+
 static void descriptions(void) {
     edf_description d, before;
     size_t position = 99;
@@ -71,10 +80,39 @@ static void descriptions(void) {
     CHECK(edf_describe(file, file_length, 0, &d, &position) == EDF_OK && position == 99);
     CHECK(d.datatype == EDF_UNSIGNED_SHORT && d.byteorder == EDF_HIGH_BYTE_FIRST && d.compression == EDF_COMPRESSION_NONE);
     CHECK(d.n == 2 && d.dim1 == 3 && d.dim2 == 2 && d.dim3 == 1 && d.configuration == 6 && d.orientation == 1 && d.offset == 0);
+    CHECK(has_origins(&d.origins, "oodoodd") && sizeof d == 17 * sizeof(uint64_t));
     memset(&d, 99, sizeof d);
     before = d;
     CHECK(edf_describe(file, file_length, 1, &d, &position) == EDF_NOT_FOUND && position == 0);
     CHECK(memcmp(&d, &before, sizeof d) == 0);
+}
+
+/* Puts the header of a block with these statements at `at`, 512 bytes, and answers its end. */
+static size_t put_header(uint8_t *bytes, size_t at, const char *statements) {
+    memset(bytes + at, ' ', 510);
+    bytes[at] = '{';
+    memcpy(bytes + at + 1, statements, strlen(statements));
+    memcpy(bytes + at + 510, "}\n", 2);
+    return at + 512;
+}
+
+/* Each field in turn in a block's own header, in the general header, in both and in none. */
+static void origins_of_each_field(void) {
+    static const char *const statements[] = {"DataType=SignedByte;",       "ByteOrder=LowByteFirst;", "Compression=None;",  "Dim_1=4;",
+                                             "DataRasterConfiguration=2;", "RasterOrientation=2;",    "DataValueOffset=0;"};
+    static uint8_t bytes[2048];
+    for (int field = 0; field < 7; field++)
+        for (int where = 0; where < 4; where++) {
+            char general[256] = "EDF_DataFormatVersion=2.42;EDF_DataBlocks=1;", own[256] = "EDF_DataBlockID=1.Image.Psd;EDF_BinarySize=16;";
+            char letters[] = "ddddddd";
+            edf_description d;
+            size_t position = 99;
+            if (where & 1) strcat(own, statements[field]);
+            if (where & 2) strcat(general, statements[field]);
+            letters[field] = "dogo"[where];
+            size_t length = put_header(bytes, put_header(bytes, 0, general), own) + 16;
+            CHECK(edf_describe(bytes, length, 1, &d, &position) == EDF_OK && has_origins(&d.origins, letters));
+        }
 }
 
 static void arrays(void) {
@@ -110,6 +148,7 @@ static void stored_arrays(void) {
     CHECK(edf_stored_array(bytes, size, 0, EDF_LOW_BYTE_FIRST, &d, &start, &length, &delivered, &position) == EDF_OK);
     CHECK(d.datatype == EDF_UNSIGNED_SHORT && d.byteorder == EDF_LOW_BYTE_FIRST && d.compression == EDF_COMPRESSION_NONE);
     CHECK(d.n == 2 && d.dim1 == 2 && d.dim2 == 2 && d.dim3 == 1 && d.configuration == 1 && d.orientation == 1 && d.offset == 0);
+    CHECK(has_origins(&d.origins, "oodoodd"));
     CHECK(delivered == 1 && length == 8 && memcmp(bytes + start, "\1\0\2\0\3\0\4\1", 8) == 0 && position == 99);
     CHECK(edf_stored_array(bytes, size, 0, EDF_HIGH_BYTE_FIRST, &d, &start, &length, &delivered, &position) == EDF_OK);
     CHECK(delivered == 0 && start == 512 && length == 8);
@@ -183,7 +222,7 @@ static void large_image(const char *path) {
 }
 
 static void listing(void) {
-    static const char expected[] = "blocks 1\n0 0 512 512 1.Image.Psd UnsignedShort HighByteFirst 3x2 6 1 0\n";
+    static const char expected[] = "blocks 1\n0 0 512 512 1.Image.Psd UnsignedShorto HighByteFirsto 3x2o 6o 1d 0d\n";
     static uint8_t list[EDF_LIST_CAPACITY];
     size_t length = 99, position = 99;
     CHECK(edf_list(file, file_length, list, sizeof list, &length, &position) == EDF_OK && position == 99);
@@ -225,11 +264,15 @@ static void words(void) {
     CHECK(strcmp(edf_datatype_name(EDF_FLOAT_IEEE64), "FloatIEEE64") == 0 && edf_datatype_width(EDF_FLOAT_IEEE64) == 8);
     CHECK(strcmp(edf_datatype_name(11), "") == 0 && edf_datatype_width(0) == 0 && edf_datatype_width(11) == 0);
     CHECK(strcmp(edf_byteorder_name(EDF_LOW_BYTE_FIRST), "LowByteFirst") == 0 && strcmp(edf_byteorder_name(3), "") == 0);
+    CHECK(strcmp(edf_origin_name(EDF_ORIGIN_OWN), "own header") == 0 && strcmp(edf_origin_name(EDF_ORIGIN_DEFAULT), "default") == 0);
+    CHECK(strcmp(edf_origin_name(EDF_ORIGIN_GENERAL), "general header") == 0);
+    CHECK(!*edf_origin_name(0) && !*edf_origin_name(4) && !*edf_origin_name(256 + EDF_ORIGIN_OWN));
 }
 
 int main(int count, char **arguments) {
     if (count != 2) return fputs("usage: calls PATH (of a file that it may write)\n", stderr), 2;
-    writing(), opening(), keywords(), descriptions(), arrays(), stored_arrays(), listing(), keyword_list(), words();
+    writing(), opening(), keywords(), descriptions(), origins_of_each_field(), arrays(), stored_arrays(), listing();
+    keyword_list(), words();
     images(arguments[1]), images_that_are_none(arguments[1]), large_image(arguments[1]);
     printf("%d passed, %d failed\n", passed, wrong);
     return wrong != 0;

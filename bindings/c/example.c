@@ -1,4 +1,4 @@
-/* Opens a file and prints one pixel of a block:
+/* Opens a file and prints one pixel of a block, its data type, and where that came from:
  *
  *     example FILE BLOCK I1 [I2 [I3]]
  *
@@ -42,6 +42,10 @@ int main(int argc, char **argv) {
 
     size_t block = strtoull(argv[2], NULL, 10), index[3] = {0, 0, 0};
     for (int i = 3; i < argc; i++) index[i - 3] = strtoull(argv[i], NULL, 10);
+    edf_description d;
+    code = edf_describe(file, length, block, &d, &position);
+    if (code != EDF_OK) return failed(argv[1], code, position);
+
     uint8_t class_ = 0;
     uint64_t unsigned_ = 0;
     int64_t signed_ = 0;
@@ -52,11 +56,12 @@ int main(int argc, char **argv) {
 
     printf("block %zu of %zu: ", block, count);
     switch (class_) {
-    case EDF_UNSIGNED: printf("%" PRIu64 "\n", unsigned_); break;
-    case EDF_SIGNED: printf("%" PRId64 "\n", signed_); break;
-    case EDF_FLOAT32: printf("%g\n", float32); break;
-    default: printf("%g\n", float64); break;
+    case EDF_UNSIGNED: printf("%" PRIu64, unsigned_); break;
+    case EDF_SIGNED: printf("%" PRId64, signed_); break;
+    case EDF_FLOAT32: printf("%g", float32); break;
+    default: printf("%g", float64); break;
     }
+    printf(" (%s, %s)\n", edf_datatype_name((uint8_t)d.datatype), edf_origin_name(d.origins.datatype));
     free(file);
     return 0;
 }

@@ -55,6 +55,8 @@ static const struct {
 
 static const char *const byteorders[] = {"", "HighByteFirst", "LowByteFirst"};
 
+static const char *const origins[] = {"", "own header", "general header", "default"};
+
 const char *edf_words(uint8_t code) {
     return code < COUNT(words) ? words[code] : "unknown code";
 }
@@ -73,4 +75,8 @@ size_t edf_datatype_width(uint8_t datatype) {
 
 const char *edf_byteorder_name(uint8_t byteorder) {
     return byteorder < COUNT(byteorders) ? byteorders[byteorder] : "";
+}
+
+const char *edf_origin_name(uint64_t origin) {
+    return origin < COUNT(origins) ? origins[origin] : "";
 }

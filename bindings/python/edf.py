@@ -1,4 +1,4 @@
-"""Files of the ESRF Data Format, through the proved library (libedf.so, which `bash bindings/build` makes).
+"""Files of the ESRF Data Format, through the proved library (libedf.so.2, which `bash bindings/build` makes).
 
     import edf
 
@@ -11,6 +11,8 @@
         image = file.array(0)               # as edf.read
         file.array(0, out=image)            # with numpy: the same into an array that is there, no new memory
         print(file.pixel(0, 2, 1))          # index 1 is 2, index 2 is 1
+        d = file.describe(0)                # type, byte order, dimensions ..
+        print(d.origins.data_type)          # where the type came from: "own", "general" or "default"
 
     data = edf.write(image, title="a copy") # the bytes of a file of one block
 
@@ -32,11 +34,12 @@ import sys
 from ctypes import POINTER, byref, c_char, c_char_p, c_double, c_float, c_int64, c_size_t, c_uint8, c_uint32, c_uint64, c_void_p
 from typing import NamedTuple, Optional, Tuple
 
+_LIBRARY = "libedf.so.2"  # the library whose structs these are
 MOST_BLOCKS = 256
 MOST_BYTES = 1 << 30
 _TEXT_CAPACITY = 1023
 _VALUE_CAPACITY = 2048
-_LIST_CAPACITY = 75292
+_LIST_CAPACITY = 76828
 _HEADER_CAPACITY = 4096  # more than the header and the filling of a written file
 
 # ---- The library
@@ -53,7 +56,7 @@ class _Description(ctypes.Structure):
     """edf_description"""
 
     _fields_ = [(name, c_uint64) for name in ("datatype", "byteorder", "compression", "n", "dim1", "dim2", "dim3", "configuration",
-                                              "orientation")] + [("offset", c_int64)]
+                                              "orientation")] + [("offset", c_int64), ("origins", c_uint64 * 7)]
 
 
 _Table = _Row * MOST_BLOCKS
@@ -64,8 +67,8 @@ _Front = c_char * 0  # the front of a buffer, which may be empty
 def _load():
     here = os.path.dirname(os.path.abspath(__file__))
     named = os.environ.get("EDF_LIBRARY")
-    beside = [os.path.join(here, "libedf.so"), os.path.join(here, "..", "..", "target", "lib", "libedf.so")]
-    paths = [named] if named else [path for path in beside if os.path.exists(path)] + ["libedf.so"]
+    beside = [os.path.join(here, _LIBRARY), os.path.join(here, "..", "..", "target", "lib", _LIBRARY)]
+    paths = [named] if named else [path for path in beside if os.path.exists(path)] + [_LIBRARY]
     library = ctypes.CDLL(paths[0])
     bytes_in, number_out = [c_void_p, c_size_t], POINTER(c_size_t)
     keyword = bytes_in + [c_size_t] + bytes_in
@@ -157,6 +160,7 @@ _WIDTHS = [_library.edf_datatype_width(n) for n in range(11)]
 _KINDS = " uiuiuifuif"  # numpy's letter for each data type
 _NUMPY_TYPES = ["=%s%d" % pair for pair in zip(_KINDS, _WIDTHS)]  # numpy's name for each, in this machine's byte order
 _INSTANCES = ["", "Psd", "Error"]
+_ORIGINS = ["", "own", "general", "default"]
 _NATIVE_ORDER = 1 if sys.byteorder == "big" else 2
 _NATIVE = _BYTE_ORDERS[_NATIVE_ORDER]
 
@@ -191,8 +195,22 @@ class Block(NamedTuple):
     identity: Optional[Identity]
 
 
+class Origins(NamedTuple):
+    """Where each field of a description came from: "own", the block's own header; "general", the general header; or "default",
+    because no header in reach has the keyword. That of `dims` is that of Dim_1."""
+
+    data_type: str
+    byte_order: str
+    compression: str
+    dims: str
+    configuration: str
+    orientation: str
+    offset: str
+
+
 class Description(NamedTuple):
-    """How an array is stored. `dims` are one to three, the first runs fastest: a numpy array has them in reverse."""
+    """How an array is stored. `dims` are one to three, the first runs fastest: a numpy array has them in reverse. `origins` says
+    where each field came from."""
 
     data_type: str
     byte_order: str
@@ -201,6 +219,7 @@ class Description(NamedTuple):
     configuration: int
     orientation: int
     offset: int
+    origins: Origins
 
 
 # ---- What calls get
@@ -510,7 +529,8 @@ class File:
         d = _Description()
         _answered(self._place(block), _library.edf_describe, byref(d))
         words = _DATA_TYPES[d.datatype], _BYTE_ORDERS[d.byteorder], "None"
-        return Description(*words, (d.dim1, d.dim2, d.dim3)[: d.n], d.configuration, d.orientation, d.offset)
+        origins = Origins(*(_ORIGINS[number] for number in d.origins))
+        return Description(*words, (d.dim1, d.dim2, d.dim3)[: d.n], d.configuration, d.orientation, d.offset, origins)
 
     def array(self, block, out=None):
         """The array of a block, in raster configuration 1 and with its value offset added: a numpy array of this machine's byte
@@ -556,7 +576,8 @@ def read(path, block=0):
 
 
 def listing(data):
-    """What the lister prints for the bytes of a file, whether it opens or not."""
+    """What the lister prints for the bytes of a file, whether it opens or not. Straight after each field of an array a letter says
+    where it came from: `o` the block's own header, `g` the general header, `d` the default."""
     address, length, _owner = _lent(data)
     return _into(_LIST_CAPACITY, _library.edf_list, address, length).decode("ascii")
 

@@ -29,9 +29,14 @@ def fixture(name):
     return os.path.join(FIXTURES, name)
 
 
+def fixtures():
+    """The paths of all fixtures, those of the folder requests too."""
+    return sorted(glob.glob(fixture("*.edf")) + glob.glob(fixture("requests/*.edf")))
+
+
 def opened():
     """Every fixture that opens."""
-    for path in sorted(glob.glob(fixture("*.edf"))):
+    for path in fixtures():
         try:
             yield os.path.basename(path), edf.open(path)
         except edf.EdfError:
@@ -67,7 +72,9 @@ def listed(path):
         try:
             d = file.describe(block.number)
             dims = "x".join(map(str, d.dims))
-            lines.append("%s %s %s %s %d %d %d" % (line, d.data_type, d.byte_order, dims, d.configuration, d.orientation, d.offset))
+            fields = (d.data_type, d.byte_order, None, dims, d.configuration, d.orientation, d.offset)
+            told = ["%s%s" % (field, origin[0]) for field, origin in zip(fields, d.origins) if field is not None]
+            lines.append(" ".join([line] + told))
         except edf.EdfError as error:
             lines.append("%s refused %d %d" % (line, error.code, error.position))
     return "\n".join(lines) + "\n"
@@ -75,14 +82,13 @@ def listed(path):
 
 class Fixtures(unittest.TestCase):
     def test_listings(self):
-        paths = glob.glob(fixture("*.edf"))
-        self.assertGreater(len(paths), 30)
-        for path in paths:
+        self.assertGreater(len(fixtures()), 120)
+        for path in fixtures():
             with open(path[:-4] + ".list") as expected:
                 self.assertEqual(listed(path), expected.read(), path)
 
     def test_listing(self):
-        for path in glob.glob(fixture("*.edf")):
+        for path in fixtures():
             with open(path, "rb") as data, open(path[:-4] + ".list") as expected:
                 self.assertEqual(edf.listing(data.read()), expected.read(), path)
         self.assertEqual(edf.listing(b""), "refused 3 0\n")
@@ -319,6 +325,61 @@ class Blocks(unittest.TestCase):
         self.assertEqual(wrong, [])
 
 
+class Origins(unittest.TestCase):
+    """Where the fields of a description came from."""
+
+    STATEMENTS = {"data_type": "DataType = SignedByte ;", "byte_order": "ByteOrder = LowByteFirst ;", "compression": "Compression = None ;",
+                  "dims": "Dim_1 = 4 ;", "configuration": "DataRasterConfiguration = 2 ;", "orientation": "RasterOrientation = 2 ;",
+                  "offset": "DataValueOffset = 0 ;"}
+
+    @staticmethod
+    def block(statements):
+        return ("{ " + statements).ljust(510).encode("ascii") + b"}\n" + bytes(16)
+
+    def general(self, statements):
+        return self.block("EDF_DataFormatVersion = 2.42 ; EDF_DataBlocks = 2 ; EDF_BinarySize = 16 ; " + statements)
+
+    def data(self, sequence, statements):
+        return self.block("EDF_DataBlockID = %d.Image.Psd ; EDF_BinarySize = 16 ; %s" % (sequence, statements))
+
+    def test_each_field_in_each_header(self):
+        self.assertEqual(tuple(self.STATEMENTS), edf.Origins._fields)
+        self.assertEqual(edf.Description._fields, edf.Origins._fields + ("origins",))
+        default = edf.Origins(*["default"] * 7)
+        for field, statement in self.STATEMENTS.items():
+            for general, own, origin in (("", "", "default"), ("", statement, "own"), (statement, "", "general"),
+                                         (statement, statement, "own")):
+                file = edf.File(self.general(general) + self.data(1, own) + self.data(2, ""))
+                self.assertEqual(file.describe(1).origins, default._replace(**{field: origin}), (field, general, own))
+                inherited = default._replace(**{field: "general" if general else "default"})
+                self.assertEqual(file.describe(2).origins, inherited, (field, general, own))
+
+    def test_without_a_general_header(self):
+        for field, statement in self.STATEMENTS.items():
+            others = "".join(other for other in self.STATEMENTS.values() if other != statement)
+            own, default = edf.Origins(*["own"] * 7), edf.Origins(*["default"] * 7)
+            plain = [self.block("Size = 16 ; " + statements) for statements in (statement, others)]
+            for blocks in (plain, [self.data(1, statement), self.data(2, others)]):
+                file = edf.File(b"".join(blocks))
+                self.assertEqual([file._place(number).start for number in (0, 1)], [0, 528])  # each is looked at by itself
+                self.assertEqual(file.describe(0).origins, default._replace(**{field: "own"}))
+                self.assertEqual(file.describe(1).origins, own._replace(**{field: "default"}))
+
+    def test_dimensions(self):
+        def dims(general, own):
+            file = edf.File(self.general("DataType = UnsignedByte ; " + general) + self.data(1, own) + self.data(2, ""))
+            return file.describe(1).dims, file.describe(1).origins.dims
+
+        self.assertEqual(dims("Dim_1 = 2 ;", "Dim_2 = 3 ;"), ((2, 3), "general"))
+        self.assertEqual(dims("Dim_2 = 3 ;", "Dim_1 = 2 ;"), ((2, 3), "own"))
+        self.assertEqual(dims("Dim_2 = 3 ;", "Dim_3 = 2 ;"), ((0,), "default"))
+
+    def test_written(self):
+        d = edf.File(edf.write(b"\1\2", "", "UnsignedByte", [2])).describe(0)
+        self.assertEqual(d.origins, edf.Origins(*["own"] * 7)._replace(compression="default", orientation="default", offset="default"))
+        self.assertIn("origins=Origins(data_type='own', byte_order='own', compression='default', dims='own', ", repr(d))
+
+
 class Arrays(unittest.TestCase):
     def test_bytes_without_numpy(self):
         with without_numpy(), edf.open(fixture("raster_7.edf")) as file:
@@ -354,13 +415,14 @@ class Arrays(unittest.TestCase):
 
     def test_value_offset_below_zero(self):
         file = edf.File(b"{ Size = 2 ; DataType = SignedByte ; Dim_1 = 2 ; DataValueOffset = -3 ;".ljust(510) + b"}\n\x05\x80")
-        self.assertEqual(file.describe(0), ("SignedByte", "HighByteFirst", "None", (2,), 1, 1, -3))
+        origins = ("own", "default", "default", "own", "default", "default", "own")
+        self.assertEqual(file.describe(0), ("SignedByte", "HighByteFirst", "None", (2,), 1, 1, -3, origins))
         self.assertEqual(bytes(file.array(0)), b"\x02\x80")
 
     def test_empty_array(self):
         body = b"{\nSize = 0 ;\n"
         file = edf.File(body + b" " * (510 - len(body)) + b"}\n")
-        self.assertEqual(file.describe(0).dims, (0,))
+        self.assertEqual((file.describe(0).dims, set(file.describe(0).origins)), ((0,), {"default"}))
         with without_numpy():
             self.assertEqual(file.array(0), b"")
         self.assertEqual(len(file.array(0)), 0)
@@ -472,8 +534,7 @@ class Reading(unittest.TestCase):
         return given
 
     def test_fixtures(self):
-        paths = sorted(glob.glob(fixture("*.edf")))
-        arrays = sum(isinstance(self.both(path, block), bytes) for path in paths for block in (0, 1, 9, 10))
+        arrays = sum(isinstance(self.both(path, block), bytes) for path in fixtures() for block in (0, 1, 9, 10))
         self.assertGreater(arrays, 25)
 
     @with_numpy
@@ -598,7 +659,7 @@ class Writing(unittest.TestCase):
         with tempfile.NamedTemporaryFile() as stream:
             stream.write(data)
             stream.flush()
-            self.assertEqual(listed(stream.name), "blocks 1\n0 0 512 512 1.Image.Psd UnsignedShort HighByteFirst 3x2 6 1 0\n")
+            self.assertEqual(listed(stream.name), "blocks 1\n0 0 512 512 1.Image.Psd UnsignedShorto HighByteFirsto 3x2o 6o 1d 0d\n")
         file = edf.File(data)
         self.assertEqual(file.header(0)["title"], "x;")
         self.assertEqual(edf.File(edf.write(b"\1", "", "UnsignedByte", [1], sequence=-5, instance="Error", memory=7)).blocks[0].identity,

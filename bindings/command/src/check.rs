@@ -1,10 +1,10 @@
-//! `edf check`: whether every block of a file can be described; if not, what is wrong, and the bytes there.
+//! `edf check`: whether every block of a file can be described; if not, what is wrong, and the bytes there. Notes say what is assumed.
 
 use crate::context::context;
 use crate::failure::{Failure, Status};
 use crate::input;
 use crate::output::Output;
-use edf::{Block, BlockKind, Code, Error, File};
+use edf::{Block, BlockKind, Code, Description, Error, File, Origin};
 use std::ffi::OsString;
 
 pub fn check(files: &[OsString], output: &mut Output) -> Result<Status, Failure> {
@@ -36,10 +36,19 @@ fn check_bytes(bytes: &[u8], name: &str, output: &mut Output) -> Result<Status, 
     };
     let mut status = Status::Well;
     for block in file.blocks().filter(|block| block.kind() == BlockKind::Data) {
-        if let Err(error) = block.array() {
-            output.line(&format!("{name}: block {}: {error}", block.number()))?;
-            output.text(&context(bytes, guilty(&block, &error)))?;
-            status = Status::Refused;
+        let assumed = match block.array() {
+            Ok(array) => defaulted(array.description()),
+            Err(error) => {
+                output.line(&format!("{name}: block {}: {error}", block.number()))?;
+                output.text(&context(bytes, guilty(&block, &error)))?;
+                status = Status::Refused;
+                not_found(&block)
+            }
+        };
+        for ((key, assumption), is_assumed) in ASSUMED.into_iter().zip(assumed) {
+            if is_assumed {
+                output.line(&format!("{name}: block {}: note: {key} is not written; {assumption}", block.number()))?;
+            }
         }
     }
     if status == Status::Well {
@@ -47,6 +56,21 @@ fn check_bytes(bytes: &[u8], name: &str, output: &mut Output) -> Result<Status, 
         output.line(&format!("{name}: ok, {count} block{}", if count == 1 { "" } else { "s" }))?;
     }
     Ok(status)
+}
+
+/// The keywords that get a note where no header in reach has them, with what is then assumed.
+const ASSUMED: [(&str, &str); 3] =
+    [("DataType", "FloatIEEE32 is assumed"), ("ByteOrder", "HighByteFirst is assumed"), ("Dim_1", "the array is empty")];
+
+/// Which of them no header in reach has, for a block that is described: those whose origin is the default.
+fn defaulted(description: &Description) -> [bool; 3] {
+    let origins = description.origins;
+    [origins.data_type, origins.byte_order, origins.dims].map(|origin| origin == Origin::Default)
+}
+
+/// The same for a block that is refused: those that are not found.
+fn not_found(block: &Block) -> [bool; 3] {
+    ASSUMED.map(|(key, _)| block.find(key).is_err_and(|error| error.code() == Code::NotFound))
 }
 
 /// Where in the file the cause stands: the value of the field that is wrong; else the start of the block.

@@ -21,12 +21,17 @@ const HELP: &str = "\
 edf: list, look into, check and export files of the ESRF Data Format
 
     edf list FILE...            a line for each block: number, start, header length, data length, identity, and the
-                                array: type, byte order, dimensions, raster configuration, orientation, value offset
+                                array: type, byte order, dimensions, raster configuration, orientation, value offset,
+                                each with a letter for where it is written: o the block's own header, g the general
+                                header, d nowhere: the default
     edf header FILE [BLOCK]     the keywords of a block, or of every block
     edf get FILE BLOCK KEY      the value of a keyword as text
     edf export FILE BLOCK OUT   the array of a block, by the ending of OUT: .raw (its bytes, low byte first), .npy (numpy)
                                 or .pgm (a grey image; UnsignedByte and UnsignedShort)
-    edf check FILE...           whether every block can be read; if not, what is wrong and the bytes there
+    edf check FILE...           whether every block can be read; if not, what is wrong and the bytes there. A note says what
+                                is assumed for a block, read or refused, whose DataType, ByteOrder or Dim_1 is written
+                                nowhere: neither in its own header nor in the general header. Notes do not change the exit
+                                status
     edf --help | --version
 
 FILE may be - for standard input. Blocks are numbered from 0. After -- no word is an option.

@@ -11,11 +11,13 @@ fn fixture(name: &str) -> PathBuf {
     Path::new(env!("CARGO_MANIFEST_DIR")).join("../../tests/fixtures").join(name)
 }
 
+/// The files of tests/fixtures and of its folder requests.
 fn fixtures() -> Vec<PathBuf> {
-    let mut paths: Vec<PathBuf> = fs::read_dir(fixture("")).unwrap().map(|entry| entry.unwrap().path()).collect();
+    let entries = ["", "requests"].map(|folder| fs::read_dir(fixture(folder)).unwrap()).into_iter().flatten();
+    let mut paths: Vec<PathBuf> = entries.map(|entry| entry.unwrap().path()).collect();
     paths.retain(|path| path.extension() == Some(OsStr::new("edf")));
     paths.sort();
-    assert!(paths.len() > 30);
+    assert!(paths.len() > 120);
     paths
 }
 
@@ -62,10 +64,39 @@ fn list_is_the_lister() {
 fn list_of_several_has_headings() {
     let (good, bad) = (fixture("raster_7.edf"), fixture("past_end.edf"));
     let answer = edf(words!["list", &good, "no such file", &bad]);
-    let line = "blocks 1\n0 0 512 512 1.Image.Psd UnsignedShort HighByteFirst 3x2 7 1 0\n";
+    let line = "blocks 1\n0 0 512 512 1.Image.Psd UnsignedShorto HighByteFirsto 3x2o 7o 1d 0d\n";
     assert_eq!(answer.out, format!("{}:\n{line}{}:\nrefused 12 0\n", good.display(), bad.display()));
     assert_eq!(answer.err, "edf: no such file: No such file or directory (os error 2)\n");
     assert_eq!(answer.status, 3);
+}
+
+/// A header of 512 bytes with these statements, and 16 bytes of data.
+fn block(statements: &str) -> String {
+    format!("{{ {statements:<507} }}\n0123456789abcdef")
+}
+
+/// A file of a general block and a data block, each with these statements besides its own.
+fn general_and_data(general: &str, own: &str) -> String {
+    block(&format!("EDF_DataFormatVersion = 2.42 ; EDF_DataBlocks = 1 ; EDF_BinarySize = 16 ; {general}"))
+        + &block(&format!("EDF_DataBlockID = 1.Image.Psd ; EDF_BinarySize = 16 ; {own}"))
+}
+
+#[test]
+fn list_tells_where_each_field_came_from() {
+    let file = folder("origins").join("origins.edf");
+    for (general, own, fields) in [
+        ("", "", "FloatIEEE32d HighByteFirstd 0d 1d 1d 0d"),
+        ("ByteOrder = LowByteFirst ;", "DataType = SignedByte ; Dim_1 = 2 ;", "SignedByteo LowByteFirstg 2o 1d 1d 0d"),
+        ("DataType = SignedByte ; Dim_1 = 2 ;", "ByteOrder = HighByteFirst ; Dim_2 = 3 ;", "SignedByteg HighByteFirsto 2x3g 1d 1d 0d"),
+        ("RasterOrientation = 2 ;", "DataRasterConfiguration = 1 ;", "FloatIEEE32d HighByteFirstd 0d 1o 2g 0d"),
+        ("DataRasterConfiguration = 2 ;", "DataValueOffset = 0 ; Compression = None ;", "FloatIEEE32d HighByteFirstd 0d 2g 1d 0o"),
+        ("DataValueOffset = 0 ;", "RasterOrientation = 1 ;", "FloatIEEE32d HighByteFirstd 0d 1d 1o 0g"),
+    ] {
+        fs::write(&file, general_and_data(general, own)).unwrap();
+        let answer = edf(words!["list", &file]);
+        assert_eq!(answer.out, format!("blocks 2\n0 0 512 16 general\n1 528 512 16 1.Image.Psd {fields}\n"));
+        assert_eq!(answer.status, 0);
+    }
 }
 
 #[test]
@@ -78,7 +109,7 @@ fn standard_input() {
         .unwrap();
     child.stdin.take().unwrap().write_all(&fs::read(fixture("k1_raster_6.edf")).unwrap()).unwrap();
     let answer = ended(child.wait_with_output().unwrap());
-    assert_eq!(answer.out, "blocks 1\n0 0 512 512 - UnsignedShort HighByteFirst 3x2 6 1 0\n");
+    assert_eq!(answer.out, "blocks 1\n0 0 512 512 - UnsignedShorto HighByteFirsto 3x2o 6o 1d 0d\n");
 }
 
 #[test]
@@ -187,18 +218,133 @@ fn check_tells_what_is_wrong_and_where() {
     assert!(answer.out.contains("type_unknown.edf: block 0: error 17 at 1: unknown word in DataType\n"));
 }
 
+/// The lines of `check` for a file with these bytes, without the name of the file, and the exit status.
+fn checked(name: &str, bytes: &str) -> (Vec<String>, i32) {
+    let file = folder(name).join("checked.edf");
+    fs::write(&file, bytes).unwrap();
+    let answer = edf(words!["check", &file]);
+    assert_eq!(answer.err, "");
+    let start = format!("{}: ", file.display());
+    (answer.out.lines().filter_map(|line| line.strip_prefix(&start)).map(str::to_string).collect(), answer.status)
+}
+
+/// A note for each of three fields that neither header has, whether the block is described or refused. What the general header has is
+/// written. Notes do not change the exit status.
+#[test]
+fn check_notes_what_is_not_written() {
+    let fields = [
+        ("DataType = UnsignedByte ;", "block 1: note: DataType is not written; FloatIEEE32 is assumed"),
+        ("ByteOrder = LowByteFirst ;", "block 1: note: ByteOrder is not written; HighByteFirst is assumed"),
+        ("Dim_1 = 2 ;", "block 1: note: Dim_1 is not written; the array is empty"),
+    ];
+    for places in 0..27 {
+        let place = |field: usize| places / [1, 3, 9][field] % 3; // in neither header, in the block's own, in the general one
+        let at = |number: usize| (0..3).filter(move |&field| place(field) == number);
+        let statements = |number: usize| at(number).map(|field| fields[field].0).collect::<String>();
+        let notes = || at(0).map(|field| fields[field].1);
+        let expected = notes().chain(["ok, 2 blocks"]).map(str::to_string).collect();
+        assert_eq!(checked("notes", &general_and_data(&statements(2), &statements(1))), (expected, 0), "{places}");
+        let refused = general_and_data(&statements(2), &(statements(1) + "Compression = Gzip ;"));
+        let expected = ["block 1: error 17 at 3: unknown word in Compression"].into_iter().chain(notes()).map(str::to_string).collect();
+        assert_eq!(checked("notes", &refused), (expected, 1), "{places}");
+    }
+}
+
+/// Compression, RasterOrientation, DataRasterConfiguration and DataValueOffset get no note; a written default gets none either.
+#[test]
+fn check_notes_nothing_else() {
+    let written = "DataType = FloatIEEE32 ; ByteOrder = HighByteFirst ; Dim_1 = 1 ; Size = 16 ;";
+    assert_eq!(checked("nothing", &block(written)), (vec!["ok, 1 block".to_string()], 0));
+    let one_byte = "DataType = UnsignedByte ; Dim_1 = 1 ; Size = 16 ;";
+    let lines = ["block 0: note: ByteOrder is not written; HighByteFirst is assumed", "ok, 1 block"].map(str::to_string);
+    assert_eq!(checked("one_byte", &block(one_byte)), (lines.to_vec(), 0));
+}
+
+/// A block that is refused, whatever its error, has notes too: T of DataType, O of ByteOrder, D of Dim_1. What is assumed may be the cause.
+#[test]
+fn check_notes_refused_blocks() {
+    let notes = [
+        ('T', "block 0: note: DataType is not written; FloatIEEE32 is assumed"),
+        ('O', "block 0: note: ByteOrder is not written; HighByteFirst is assumed"),
+        ('D', "block 0: note: Dim_1 is not written; the array is empty"),
+    ];
+    for (statements, error, noted) in [
+        ("DataType = Float ;", "error 17 at 1: unknown word in DataType", "OD"),
+        ("ByteOrder = Low ; Dim_1 = 1 ;", "error 17 at 2: unknown word in ByteOrder", "T"),
+        ("Dim_1 = 0 ;", "error 18 at 4: bad number or range in Dim_1 to Dim_3", "TO"),
+        ("DataValueOffset = x ;", "error 18 at 7: bad number or range in DataValueOffset", "TOD"),
+        ("Dim_1=1; Dim_2=1; Dim_3=1; Dim_4=1;", "error 19 at 0: Dim_1 to Dim_4 all found: at most three dimensions are read", "TO"),
+        ("ByteOrder = LowByteFirst ; Dim_1 = 5 ;", "error 20 at 0: data shorter than the array", "T"),
+        ("DataValueOffset = 1 ; Dim_1 = 1 ;", "error 21 at 0: nonzero offset on floats", "TO"),
+        ("DataType = SignedShort ; ByteOrder = LowByteFirst ; Dim_1 = 9 ;", "error 20 at 0: data shorter than the array", ""),
+    ] {
+        let noted = notes.iter().filter(|(letter, _)| noted.contains(*letter)).map(|(_, note)| note.to_string());
+        let expected = [format!("block 0: {error}")].into_iter().chain(noted).collect();
+        assert_eq!(checked("refused_block", &block(&format!("Size = 16 ; {statements}"))), (expected, 1), "{statements}");
+    }
+}
+
+/// The notes of a block stand after its error and the bytes there, and before those of the next block.
+#[test]
+fn check_notes_stand_after_the_bytes() {
+    let file = folder("after").join("after.edf");
+    let statements = "Size = 16 ; ByteOrder = LowByteFirst ;";
+    fs::write(&file, block(&format!("{statements} Dim_1 = 5 ;")) + &block(statements)).unwrap();
+    let out = edf(words!["check", &file]).out;
+    let lines: Vec<&str> = out.lines().map(|line| line.rsplit(": ").next().unwrap()).collect();
+    assert_eq!(lines[0], "data shorter than the array");
+    assert!(lines[1..5].iter().all(|line| line.starts_with("    ")) && lines[1..5].iter().any(|line| line.trim() == "^^"), "{out}");
+    let assumed = "DataType is not written; FloatIEEE32 is assumed";
+    assert_eq!(lines[5..], [assumed, assumed, "Dim_1 is not written; the array is empty"], "{out}");
+}
+
+/// A file that does not open has no notes.
+#[test]
+fn check_notes_no_refused_file() {
+    assert_eq!(checked("refused_file", "no header"), (vec!["error 3 at 0: no start of a header here".to_string()], 1));
+    let no_number = block("Size = x ;");
+    assert_eq!(checked("refused_file", &no_number), (vec!["error 9 at 0: a rule on EDF_ keys or Size broken".to_string()], 1));
+}
+
+/// How many of DataType, ByteOrder and Dim_1 stand in no header in reach of a block, by the lists of their keywords.
+fn not_written(bytes: &[u8], number: usize) -> usize {
+    let file = edf::File::open(bytes).unwrap();
+    let in_reach = file.blocks().filter(|block| block.kind() == edf::BlockKind::General || block.number() == number);
+    let keys: Vec<String> = in_reach.flat_map(|block| block.keywords()).map(|keyword| keyword.key().to_ascii_lowercase()).collect();
+    ["datatype", "byteorder", "dim_1"].iter().filter(|&&key| !keys.iter().any(|written| written == key)).count()
+}
+
+/// The notes that a line of a listing asks for: one for each `d` after a type, a byte order or dimensions, and for a block that is
+/// refused one for each keyword that is not written.
+fn notes_of_line(line: &str, bytes: &[u8]) -> usize {
+    let fields: Vec<&str> = line.split(' ').collect();
+    match fields[..] {
+        [number, _, _, _, _, "refused", ..] => not_written(bytes, number.parse().unwrap()),
+        [_, _, _, _, _, _, _, _, ..] => fields[5..8].iter().filter(|field| field.ends_with('d')).count(),
+        _ => 0,
+    }
+}
+
+/// The status and the errors are those of the listing, each with the bytes there, and so are the notes.
 #[test]
 fn check_of_every_fixture() {
+    let mut noted = [0, 0]; // of blocks that are described, of blocks that are refused
     for path in fixtures() {
-        let listing = fs::read_to_string(path.with_extension("list")).unwrap();
+        let (bytes, listing) = (fs::read(&path).unwrap(), fs::read_to_string(path.with_extension("list")).unwrap());
         let answer = edf(words!["check", &path]);
         assert_eq!(answer.status, i32::from(listing.contains("refused")), "{}", path.display());
-        if let Some((_, refusal)) = listing.split_once("refused ") {
-            let (code, position) = refusal.trim().split_once(' ').unwrap();
-            assert!(answer.out.contains(&format!(": error {code} at {position}: ")), "{}: {}", path.display(), answer.out);
-            assert!(answer.out.contains("^^"), "{}", path.display());
+        let lines_with = |words: &str| answer.out.lines().filter(|line| line.contains(words)).count();
+        let (refused, described): (Vec<&str>, Vec<&str>) = listing.lines().partition(|line| line.contains("refused"));
+        let notes = [described, refused.clone()].map(|lines| lines.iter().map(|line| notes_of_line(line, &bytes)).sum::<usize>());
+        assert_eq!(lines_with(": note: "), notes[0] + notes[1], "{}: {}", path.display(), answer.out);
+        assert_eq!(lines_with("^^") + lines_with("the file ends here"), refused.len(), "{}: {}", path.display(), answer.out);
+        for (_, refusal) in refused.iter().filter_map(|line| line.split_once("refused ")) {
+            let (code, position) = refusal.split_once(' ').unwrap();
+            assert!(lines_with(&format!(": error {code} at {position}: ")) > 0, "{}: {}", path.display(), answer.out);
         }
+        noted = [noted[0] + notes[0], noted[1] + notes[1]];
     }
+    assert!(noted[0] > 0 && noted[1] > 0, "{noted:?}");
 }
 
 /// The mark of a bad field stands under its value.
@@ -289,8 +435,11 @@ fn bad_arguments() {
 fn help_and_version() {
     let help = edf(&["--help"]);
     assert_eq!((help.status, help.err.as_str()), (0, ""));
-    for word in ["list", "header", "get", "export", "check", "Exit status"] {
-        assert!(help.out.contains(word));
+    let text = help.out.split_whitespace().collect::<Vec<_>>().join(" ");
+    let letters = "o the block's own header, g the general header, d nowhere: the default";
+    let notes = "A note says what is assumed for a block, read or refused,";
+    for words in ["list", "header", "get", "export", "check", letters, notes, "Exit status"] {
+        assert!(text.contains(words), "{words}");
     }
     assert_eq!(edf(&["check", "-h"]).out, help.out);
     assert_eq!(edf(&["--version"]).out, concat!("edf ", env!("CARGO_PKG_VERSION"), "\n"));
@@ -335,7 +484,7 @@ fn the_limit_of_a_gibibyte() {
         path
     };
     let greatest = make("greatest.edf", most);
-    let line = "0 0 512 1073741312 - UnsignedShort HighByteFirst 1048576x511 1 1 0";
+    let line = "0 0 512 1073741312 - UnsignedShorto HighByteFirstd 1048576x511o 1d 1d 0d";
     assert_eq!(edf(words!["list", &greatest]).out, format!("blocks 1\n{line}\n"));
     let over = make("over.edf", most + 1);
     assert_eq!(edf(words!["list", &over]).out, "refused 1 0\n");

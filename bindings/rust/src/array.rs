@@ -1,6 +1,6 @@
 //! The array of a block.
 
-use crate::codes::{ByteOrder, Compression, DataType};
+use crate::codes::{ByteOrder, Compression, DataType, Origin};
 use crate::error::Error;
 use crate::{ffi, text};
 
@@ -19,6 +19,8 @@ pub struct Description {
     pub orientation: u32,
     /// What is added to each stored whole number. [`Array::read`] and [`Array::pixel`] have done so.
     pub offset: i64,
+    /// Where each of these fields came from.
+    pub origins: Origins,
     n: usize,
     dims: [usize; 3],
 }
@@ -37,6 +39,45 @@ impl Description {
     /// The number of its bytes.
     pub fn byte_length(&self) -> usize {
         self.elements() * self.data_type.width()
+    }
+}
+
+/// Where each field of a [`Description`] came from.
+///
+/// ```
+/// # let header = format!("{{ {:<507} }}\n", "ByteOrder = HighByteFirst ; Dim_1 = 1 ; Size = 4 ;");
+/// # let bytes = [header.as_bytes(), &[0; 4]].concat();
+/// # let file = edf::File::open(&bytes)?;
+/// use edf::{DataType, Origin};
+/// let array = file.block(0)?.array()?; // its header has ByteOrder, Dim_1 and Size
+/// let description = array.description();
+/// assert_eq!((description.data_type, description.origins.data_type), (DataType::FloatIEEE32, Origin::Default));
+/// assert_eq!((description.origins.byte_order, description.origins.dims), (Origin::Own, Origin::Own));
+/// # Ok::<(), edf::Error>(())
+/// ```
+#[derive(Clone, Copy, Debug, PartialEq, Eq, Hash)]
+pub struct Origins {
+    /// That of DataType.
+    pub data_type: Origin,
+    /// That of ByteOrder.
+    pub byte_order: Origin,
+    /// That of Compression.
+    pub compression: Origin,
+    /// That of Dim_1.
+    pub dims: Origin,
+    /// That of DataRasterConfiguration.
+    pub configuration: Origin,
+    /// That of RasterOrientation.
+    pub orientation: Origin,
+    /// That of DataValueOffset.
+    pub offset: Origin,
+}
+
+impl Origins {
+    /// Those of the library's seven numbers, in the order of the fields.
+    fn of(numbers: [u64; 7]) -> Origins {
+        let [data_type, byte_order, compression, dims, configuration, orientation, offset] = numbers.map(Origin::of);
+        Origins { data_type, byte_order, compression, dims, configuration, orientation, offset }
     }
 }
 
@@ -77,6 +118,7 @@ impl<'a> Array<'a> {
             configuration: f.configuration as u32,
             orientation: f.orientation as u32,
             offset: f.offset,
+            origins: Origins::of(f.origins),
             n: f.n as usize,
             dims: f.dims.map(|dim| dim as usize),
         };

@@ -1,6 +1,7 @@
 //! Numbers of the library as enums. Each discriminant is the library's number.
 
 use crate::ffi;
+use std::fmt;
 
 /// The type of an array's elements.
 #[derive(Clone, Copy, Debug, PartialEq, Eq, Hash)]
@@ -90,6 +91,54 @@ impl Compression {
             1 => Compression::None,
             _ => unreachable!("the library answers 1"),
         }
+    }
+}
+
+/// Where a field of a description came from. It is shown as `own`, `general` or `default`.
+///
+/// ```
+/// use edf::Origin;
+/// assert_eq!([Origin::Own, Origin::General, Origin::Default].map(|origin| origin.to_string()), ["own", "general", "default"]);
+/// assert_eq!([Origin::Own, Origin::General, Origin::Default].map(Origin::letter), ['o', 'g', 'd']);
+/// ```
+#[derive(Clone, Copy, Debug, PartialEq, Eq, Hash)]
+#[repr(u8)]
+pub enum Origin {
+    /// The block's own header.
+    Own = 1,
+    /// The general header.
+    General,
+    /// The default, because no header in reach has the keyword.
+    Default,
+}
+
+impl Origin {
+    pub(crate) fn of(number: u64) -> Origin {
+        match number {
+            1 => Origin::Own,
+            2 => Origin::General,
+            3 => Origin::Default,
+            _ => unreachable!("the library answers 1 to 3"),
+        }
+    }
+
+    /// The letter for it in a listing.
+    pub fn letter(self) -> char {
+        match self {
+            Origin::Own => 'o',
+            Origin::General => 'g',
+            Origin::Default => 'd',
+        }
+    }
+}
+
+impl fmt::Display for Origin {
+    fn fmt(&self, f: &mut fmt::Formatter) -> fmt::Result {
+        f.pad(match self {
+            Origin::Own => "own",
+            Origin::General => "general",
+            Origin::Default => "default",
+        })
     }
 }
 

@@ -64,7 +64,7 @@ extern "C" {
     fn edf_byteorder_name(byteorder: u8) -> *const c_char;
 }
 
-/// The fields of `edf_description`, in its order, and `dim1`, `dim2`, `dim3` as an array.
+/// The fields of `edf_description`, in its order; `dim1`, `dim2`, `dim3` and the seven of `origins` as arrays.
 #[derive(Default)]
 #[repr(C)]
 pub struct Fields {
@@ -76,6 +76,7 @@ pub struct Fields {
     pub configuration: u64,
     pub orientation: u64,
     pub offset: i64,
+    pub origins: [u64; 7],
 }
 
 /// The arguments of `edf_write` that are numbers, in its order.

@@ -47,8 +47,8 @@ mod keywords;
 mod list;
 mod text;
 
-pub use array::{Array, Description, Pixel};
-pub use codes::{ByteOrder, Compression, DataType, Instance};
+pub use array::{Array, Description, Origins, Pixel};
+pub use codes::{ByteOrder, Compression, DataType, Instance, Origin};
 pub use error::{Code, Error};
 pub use file::{Block, BlockKind, File, Identity, Span};
 pub use frame::{write, Frame};

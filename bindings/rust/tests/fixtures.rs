@@ -1,4 +1,4 @@
-//! The wrapper on the fixtures of tests/fixtures, whose listings stand beside them.
+//! The wrapper on the fixtures of tests/fixtures and of its folder requests, whose listings stand beside them.
 
 use edf::{BlockKind, ByteOrder, Code, File, Identity, Instance, Pixel};
 use std::path::{Path, PathBuf};
@@ -11,11 +11,16 @@ fn fixture(name: &str) -> Vec<u8> {
     std::fs::read(folder().join(name)).expect(name)
 }
 
+/// The names of a folder, as `fixture` takes them.
+fn names(inner: &str) -> Vec<String> {
+    let entries = std::fs::read_dir(folder().join(inner)).expect(inner);
+    entries.map(|entry| inner.to_string() + &entry.unwrap().file_name().into_string().unwrap()).collect()
+}
+
 fn all_fixtures() -> Vec<(String, Vec<u8>)> {
-    let entries = std::fs::read_dir(folder()).expect("tests/fixtures");
-    let names = entries.map(|entry| entry.unwrap().file_name().into_string().unwrap());
-    let files: Vec<_> = names.filter(|name| name.ends_with(".edf")).map(|name| (name.clone(), fixture(&name))).collect();
-    assert!(files.len() > 30);
+    let names = ["", "requests/"].into_iter().flat_map(names).filter(|name| name.ends_with(".edf"));
+    let files: Vec<_> = names.map(|name| (name.clone(), fixture(&name))).collect();
+    assert!(files.len() > 120);
     files
 }
 
@@ -25,6 +30,25 @@ fn listings() {
         let expected = String::from_utf8(fixture(&name.replace(".edf", ".list"))).unwrap();
         assert_eq!(edf::list(&bytes), expected, "{name}");
     }
+}
+
+/// The letters of a listing are the origins of the descriptions. The listing is made from the whole file, a description from a block's
+/// own bytes where the file has no general block.
+#[test]
+fn letters_are_the_origins() {
+    let mut compared = 0;
+    for (name, bytes) in all_fixtures() {
+        let Ok(file) = File::open(&bytes) else { continue };
+        for (block, line) in file.blocks().zip(edf::list(&bytes).lines().skip(1)) {
+            let Ok(array) = block.array() else { continue };
+            let o = array.description().origins;
+            let origins = [o.data_type, o.byte_order, o.dims, o.configuration, o.orientation, o.offset];
+            let letters: Vec<char> = line.split(' ').skip(5).filter_map(|field| field.chars().last()).collect();
+            assert_eq!(letters, origins.map(edf::Origin::letter), "{name} {line}");
+            compared += 1;
+        }
+    }
+    assert!(compared > 30, "{compared}");
 }
 
 /// The list of keywords agrees with the library's own lookup: every key is found, with the same text.
@@ -54,7 +78,8 @@ fn arrays_that_are_parts_of_the_file() {
                 match array.bytes(order).expect(&name) {
                     Some(part) => {
                         assert_eq!(part, array.read(order).unwrap(), "{name}");
-                        assert!(bytes.as_ptr_range().contains(&part.as_ptr()), "{name}");
+                        let (file, part) = (bytes.as_ptr_range(), part.as_ptr_range());
+                        assert!(file.start <= part.start && part.end <= file.end, "{name}");
                         parts += 1;
                     }
                     None => others += 1,

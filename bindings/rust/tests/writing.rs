@@ -1,6 +1,6 @@
 //! What is written opens again, for every type, byte order and number of dimensions.
 
-use edf::{ByteOrder, Code, DataType, File, Frame, Identity, Instance};
+use edf::{ByteOrder, Code, DataType, File, Frame, Identity, Instance, Origin, Origins};
 
 #[test]
 fn written_reads_back() {
@@ -25,7 +25,21 @@ fn round_trip(frame: &Frame) {
     let array = block.array().unwrap();
     let d = array.description();
     assert_eq!((d.data_type, d.byte_order, d.configuration, d.dims()), (frame.data_type, frame.byte_order, frame.configuration, frame.dims));
+    assert_eq!(d.origins, written_origins());
     assert_eq!(array.read(ByteOrder::HighByteFirst).unwrap(), pixels);
+}
+
+/// What is written has all fields in its own header but for Compression, RasterOrientation and DataValueOffset.
+fn written_origins() -> Origins {
+    Origins {
+        data_type: Origin::Own,
+        byte_order: Origin::Own,
+        compression: Origin::Default,
+        dims: Origin::Own,
+        configuration: Origin::Own,
+        orientation: Origin::Default,
+        offset: Origin::Default,
+    }
 }
 
 #[test]
