@@ -14,10 +14,11 @@ use Rattle.scan.specs.Outcome.{Outcome, ok, failed, refused, _>>=_}
 use Rattle.scan.specs.declared.Error.{Error}
 use Rattle.scan.proofs.Cases.{by-outcome}
 use Rattle.keyword.specs.Keyword.{View, viewOf}
+use Rattle.keyword.specs.Trace.{Trace, traceIn}
 use Rattle.keyword.specs.Viewing.{viewAt, valueBytes}
 use Rattle.keyword.specs.declared.Block.{Block}
-use Rattle.origins.specs.Fields.{FieldValues, valuesBy, valuesIn, foundValues}
-use Rattle.origins.specs.Origins.{foundOrigins, originsIn}
+use Rattle.origins.specs.Fields.{Fieldwise, FieldValues, byName, each, found, foundValues}
+use Rattle.origins.specs.Origins.{originsFrom, originsIn, foundOrigins}
 use Rattle.origins.specs.declared.Fields.{Fields}
 use Rattle.origins.specs.declared.Origins.{Origins}
 use Rattle.raster.specs.Axis.{configurations}
@@ -92,7 +93,7 @@ module _ (v : FieldValues) (origins : Origins) (size : ℕ) (words : Words) (dim
 
 -- One field after the other.
 field-by-field : (look : Values) (origins : Origins) (size : ℕ) (words : Words) (dims : List ℕ)
-    → numberedArray (valuesBy look) origins size words dims
+    → numberedArray (byName look) origins size words dims
     ≡ (do
       configuration ← rangeField 5 (configurations (length dims)) 1 (look (ascii "DataRasterConfiguration"))
       orientation ← rangeField 6 (configurations (length dims)) 1 (look (ascii "RasterOrientation"))
@@ -184,13 +185,19 @@ module _ (s : List ℕ) (b : Block) where
   general-block h = rw (ne-eqb (b .row .kind) 1 h)
 
   -- The fields that were found are those of the block.
-  module _ (k : b .row .kind ≡ 1) (f : Fields) (found : foundValues s f ≡ valuesIn (viewAt s b)) where
-    pub words-read : {o : Outcome Words} → o ≡ wordsOf (foundValues s f) → o ≡ wordsOf (valuesBy (fieldsOf s b))
-    words-read e = e ∙ ap wordsOf found
+  module _ (k : b .row .kind ≡ 1) (f : Fields) (are : found s f ≡ byName (traceIn (viewAt s b))) where
+    values-are : foundValues s f ≡ byName (fieldsOf s b)
+    values-are = ap (each (λ (t : Trace). t .value)) are
+
+    origins-are : foundOrigins f ≡ originsIn (viewAt s b)
+    origins-are = ap (λ (x : Fieldwise Trace). originsFrom (each (λ (t : Trace). t .origin) x)) are
+
+    pub words-read : {o : Outcome Words} → o ≡ wordsOf (foundValues s f) → o ≡ wordsOf (byName (fieldsOf s b))
+    words-read e = e ∙ ap wordsOf values-are
 
     pub dims-read : {o : Outcome (List ℕ)} → o ≡ dimsAfterNone (fieldsOf s b) (valueBytes s (f .dims .value)) → o ≡ dimsOf (fieldsOf s b)
     dims-read e =
-        dims-from-none (fieldsOf s b) (e ∙ ap (λ (v : FieldValues). dimsAfterNone (fieldsOf s b) (v .dims)) found)
+        dims-from-none (fieldsOf s b) (e ∙ ap (λ (v : FieldValues). dimsAfterNone (fieldsOf s b) (v .dims)) values-are)
 
     pub bad-words : {x : Error} → failed x ≡ wordsOf (foundValues s f) → failed x ≡ descriptionIn (viewAt s b)
     unfolding descriptionIn viewAt described
@@ -203,12 +210,12 @@ module _ (s : List ℕ) (b : Block) where
       bad-dims g = rw (eq-eqb (b .row .kind) 1 k, ← words-read e, ← dims-read g)
 
       pub good-dims : {dims : List ℕ} → ok dims ≡ dimsAfterNone (fieldsOf s b) (valueBytes s (f .dims .value))
-          → foundOrigins f ≡ originsIn (viewAt s b) → {x : Outcome Description}
+          → {x : Outcome Description}
           → x ≡ numberedArray (foundValues s f) (foundOrigins f) (b .row .size) words dims → x ≡ descriptionIn (viewAt s b)
       unfolding descriptionIn viewAt described checkedArray
-      good-dims {dims} g from q =
+      good-dims {dims} g q =
           rw (eq-eqb (b .row .kind) 1 k, ← words-read e, ← dims-read g)
-          (q ∙ (λ i. numberedArray (found i) (from i) (b .row .size) words dims)
+          (q ∙ (λ i. numberedArray (values-are i) (origins-are i) (b .row .size) words dims)
           ∙ field-by-field (fieldsOf s b) (originsIn (viewAt s b)) (b .row .size) words dims)
 
 -- ---- By its number

@@ -17,7 +17,7 @@ use Rattle.scan.proofs.Cases.{none-some, ok-failed}
 use Rattle.text.specs.Number.{wholeNumber}
 use Rattle.keyword.specs.Keyword.{View}
 use Rattle.keyword.specs.Viewing.{valueIn}
-use Rattle.origins.specs.Fields.{valuesBy}
+use Rattle.origins.specs.Fields.{byName}
 use Rattle.origins.specs.Origins.{originsIn}
 use Rattle.origins.specs.declared.Origins.{Origins}
 use Rattle.raster.specs.Axis.{configurations}
@@ -191,7 +191,7 @@ unfolding configurations
 configurations-some zero = omega arith
 configurations-some (suc n) = mul-pos {m = 2 * suc n} (omega arith) (configurations-some n)
 
-words-valid : (look : Values) (w : Words) → wordsOf (valuesBy look) ≡ ok w
+words-valid : (look : Values) (w : Words) → wordsOf (byName look) ≡ ok w
     → ((1 ≤ w .datatype) × (w .datatype ≤ 10)) × ((1 ≤ w .byteorder) × (w .byteorder ≤ 2))
 unfolding wordsOf typeWords types orderWords
 words-valid look w e =
@@ -206,7 +206,7 @@ words-valid look w e =
 pub described-valid : (look : Values) (origins : Origins) (size : ℕ) (d : Description) → described look origins size ≡ ok d → ValidArray d size
 unfolding described
 described-valid look origins size d e =
-    let p = step-ok (wordsOf (valuesBy look)) _ d e in
+    let p = step-ok (wordsOf (byName look)) _ d e in
     let q = step-ok (dimsOf look) _ d (p .2) in
     let most = configurations (length (q .0)) in
     let r = step-ok (rangeField 5 most 1 (look (ascii "DataRasterConfiguration"))) _ d (q .2) in

@@ -10,7 +10,7 @@ use Rattle.scan.specs.Byte.{ascii}
 use Rattle.scan.specs.Outcome.{Outcome, ok, require, _>>=_, _>>_}
 use Rattle.keyword.specs.Keyword.{View, viewOf}
 use Rattle.keyword.specs.Viewing.{valueIn}
-use Rattle.origins.specs.Fields.{FieldValues, valuesBy}
+use Rattle.origins.specs.Fields.{FieldValues, byName}
 use Rattle.origins.specs.Origins.{originsIn}
 use Rattle.origins.specs.declared.Origins.{Origins}
 use Rattle.raster.specs.Axis.{configurations}
@@ -77,7 +77,7 @@ offsetAllowed class offset = not (isFloat class) || isZero offset
 -- By the values of the fields, their origins and the size of the data. 20: "extent shorter than the array".
 unfoldable pub described : Values → Origins → ℕ → Outcome Description
 described look origins size = do
-  words ← wordsOf (valuesBy look)
+  words ← wordsOf (byName look)
   dims ← dimsOf look
   configuration ← rangeField 5 (configurations (length dims)) 1 (look (ascii "DataRasterConfiguration"))
   orientation ← rangeField 6 (configurations (length dims)) 1 (look (ascii "RasterOrientation"))

@@ -18,7 +18,7 @@ use Rattle.blocks.specs.Grammar.{Partition}
 use Rattle.blocks.specs.Limits.{fileLimit}
 use Rattle.blocks.specs.declared.Row.{Row}
 use Rattle.keyword.specs.Viewing.{valueIn}
-use Rattle.origins.specs.Fields.{valuesBy}
+use Rattle.origins.specs.Fields.{byName}
 use Rattle.origins.specs.Origins.{originsIn}
 use Rattle.origins.specs.declared.Origins.{Origins}
 use Rattle.raster.specs.Axis.{configurations}
@@ -43,7 +43,7 @@ module _ {s : List ℕ} {rows : List Row} {row : Row} {look : Values} (reads : R
       → described look origins size ≡ ok d → FieldsAre s rows row d
   unfolding described
   fields-say kind {origins} from size {d} e =
-      let p = step-ok (wordsOf (valuesBy look)) _ d e in
+      let p = step-ok (wordsOf (byName look)) _ d e in
       let q = step-ok (dimsOf look) _ d (p .2) in
       let most = configurations (length (q .0)) in
       let r = step-ok (rangeField 5 most 1 (look (ascii "DataRasterConfiguration"))) _ d (q .2) in

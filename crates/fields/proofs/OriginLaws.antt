@@ -1,10 +1,9 @@
 -- The origin of a keyword and of each field: those that are found out are those of the grammar.
-use mathlib.Core.Path.{_≡_, refl, sym, ap}
+use mathlib.Core.Path.{_≡_, refl, sym}
 use mathlib.Core.Bool.{Bool, cond}
 use mathlib.Core.List.{List}
 use mathlib.Core.Option.{Option, none, some}
 use Prim.Native.Nat.{ℕ, _≤_}
-use native.Mathlib.Omega.{arith}
 use lib.ListN.{length, getElem?}
 use Rattle.scan.specs.Byte.{ascii}
 use Rattle.scan.proofs.Decides.{Decides, holds, fails}
@@ -18,24 +17,14 @@ use Rattle.blocks.specs.declared.Row.{Row}
 use Rattle.keyword.specs.Origin.{originBy, originIn}
 use Rattle.keyword.specs.declared.Origin.{Origin}
 use Rattle.keyword.specs.declared.Origin.the-variants as origin
-use Rattle.origins.specs.Letter.{numberOf}
-use Rattle.origins.specs.Origins.{originsBy, originsIn}
+use Rattle.origins.specs.Fields.{byName}
+use Rattle.origins.specs.Origins.{originsFrom, originsIn}
 use Rattle.origins.specs.declared.Origins.{Origins}
+use Rattle.origins.proofs.LetterLaws.{own-general, own-default, general-default}
 use Rattle.fields.specs.Keyword.{HeaderHas, Inherits, HasKeyword, LacksKeyword}
 use Rattle.fields.specs.Origin.{OwnHas, GeneralHas, ComesFrom, EachOrigin, OriginsAre}
 use Rattle.fields.proofs.HeaderLaws.{finds-in-header, row-headed, first-headed}
 use Rattle.fields.proofs.KeywordLaws.{shared, inherits-decides, in-reach, lacks, viewHere}
-
--- ---- The three origins differ
-
-own-general : origin.Own ≡ origin.General → ⊥
-own-general e = omega (arith, ap numberOf e)
-
-own-default : origin.Own ≡ origin.Default → ⊥
-own-default e = omega (arith, ap numberOf e)
-
-general-default : origin.General ≡ origin.Default → ⊥
-general-default e = omega (arith, ap numberOf e)
 
 module _ {s : List ℕ} {rows : List Row} {row : Row} {name : List ℕ} where
   -- ---- By what the headers have
@@ -77,7 +66,7 @@ module _ {s : List ℕ} {rows : List Row} {row : Row} {name : List ℕ} where
 
 -- ---- The seven
 
-pub each-by : {P : List ℕ → Origin → Type 0} (from : List ℕ → Origin) → ((name : List ℕ) → P name (from name)) → EachOrigin P (originsBy from)
+pub each-by : {P : List ℕ → Origin → Type 0} (from : List ℕ → Origin) → ((name : List ℕ) → P name (from name)) → EachOrigin P (originsFrom (byName from))
 each-by from h = record {
   datatype = h (ascii "DataType");
   byteorder = h (ascii "ByteOrder");

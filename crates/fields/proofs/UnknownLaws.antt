@@ -9,7 +9,7 @@ use Rattle.scan.specs.declared.Error.{Error}
 use Rattle.scan.proofs.Cases.{ok-failed}
 use Rattle.blocks.specs.declared.Row.{Row}
 use Rattle.raster.specs.Types.{typeWords, orderWords, compressionWords}
-use Rattle.origins.specs.Fields.{valuesBy}
+use Rattle.origins.specs.Fields.{byName}
 use Rattle.description.specs.Describe.{Values, wordsOf}
 use Rattle.description.specs.declared.words.Words.{Words}
 use Rattle.description.proofs.DescribedLaws.{same-ok}
@@ -34,7 +34,7 @@ module _ {s : List ℕ} {rows : List Row} {row : Row} where
   join (known x) (known y) (known z) = all-known x y z
 
   module _ {look : Values} (reads : ReadsFields s rows row look) where
-    words-say : WordsSay s rows row (wordsOf (valuesBy look))
+    words-say : WordsSay s rows row (wordsOf (byName look))
     unfolding wordsOf
     words-say =
         join (word-says (reads (ascii "DataType")) 1 typeWords 7)
@@ -42,7 +42,7 @@ module _ {s : List ℕ} {rows : List Row} {row : Row} where
         (word-says (reads (ascii "Compression")) 3 compressionWords 1)
 
     -- Their codes.
-    pub words-known : {w : Words} → wordsOf (valuesBy look) ≡ ok w
+    pub words-known : {w : Words} → wordsOf (byName look) ≡ ok w
         → TypeIs s rows row (w .datatype) × OrderIs s rows row (w .byteorder) × CompressionIs s rows row (w .compression)
     words-known {w} = go words-say
       where
@@ -71,7 +71,7 @@ module _ {s : List ℕ} {rows : List Row} {row : Row} where
 
     -- Before steps that do not give 17, the three give it exactly for the first unknown word.
     pub unknown-first : {A : Type 0} (rest : Words → Outcome A) → ((w : Words) → Spares17 (rest w)) → {k : ℕ}
-        → (wordsOf (valuesBy look) >>= rest ≡ refused 17 k) ↔ UnknownField s rows row k
+        → (wordsOf (byName look) >>= rest ≡ refused 17 k) ↔ UnknownField s rows row k
     unknown-first {A} rest spare {k} = (sound words-say, complete words-say)
       where
         sound : {o : Outcome Words} → WordsSay s rows row o → o >>= rest ≡ refused 17 k → UnknownField s rows row k

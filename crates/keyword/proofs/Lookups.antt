@@ -23,10 +23,12 @@ use Rattle.header.proofs.LookupLaws.{lookup-first, first-stands, span-ends, val
 use Rattle.blocks.specs.Counting.{isEdfKey}
 use Rattle.keyword.specs.Keyword.{lookupIn}
 use Rattle.keyword.specs.Origin.{originIn}
-use Rattle.keyword.specs.Viewing.{headerEntries, viewAt, valueSpan, valueBytes, spanIn, valueIn}
+use Rattle.keyword.specs.Trace.{Trace, traceIn, traceOf}
+use Rattle.keyword.specs.Viewing.{headerEntries, viewAt, valueSpan, valueBytes}
 use Rattle.keyword.specs.declared.Block.{Block}
 use Rattle.keyword.specs.declared.Origin.{Origin}
 use Rattle.keyword.specs.declared.Origin.the-variants as origin
+use Rattle.keyword.specs.declared.Traced.{Traced}
 use Rattle.keyword.specs.declared.Value.{Value}
 use Rattle.keyword.specs.declared.Value.the-variants.{At, Missing}
 
@@ -92,8 +94,7 @@ module _ (s : List ℕ) (b : Block) (name : List ℕ) where
 
   -- A value and an origin are those of the keyword in the block.
   abbrev pub Traces : Value → Origin → Type 0
-  Traces r o =
-      (valueSpan r ≡ spanIn (viewAt s b) name) × ((valueBytes s r ≡ valueIn (viewAt s b) name) × (o ≡ originIn (viewAt s b) name))
+  Traces r o = traceOf s (record { value = r; origin = o }) ≡ traceIn (viewAt s b) name
 
   module _ {r : Value} (own : Tells s r (in-header (b .own))) where
     -- The own header comes first.
@@ -103,7 +104,7 @@ module _ (s : List ℕ) (b : Block) (name : List ℕ) where
         let t : Tells s (At p) (in-header (b .own)) = rw a at own in
         by-option (in-header (b .own))
         (λ e. absurd (none-some (sym (rw e at (t .0)))))
-        (λ x e. let u = rw e at t in rw e (u .0, (u .1, refl)))
+        (λ x e. let u = rw e at t in rw e (λ j. record { span = u .0 j; value = u .1 j; origin = origin.Own }))
 
     module _ (a : r ≡ Missing) where
       not-own : in-header (b .own) ≡ none
@@ -112,11 +113,11 @@ module _ (s : List ℕ) (b : Block) (name : List ℕ) where
       pub not-shared : b .inherits ≡ false → Traces Missing origin.Default
       unfolding lookupIn originIn viewAt lookup
       not-shared i =
-          by-test (isEdfKey (keyOf name)) (λ k. rw (not-own, i, k) (refl, (refl, refl))) (λ k. rw (not-own, i, k) (refl, (refl, refl)))
+          by-test (isEdfKey (keyOf name)) (λ k. rw (not-own, i, k) refl) (λ k. rw (not-own, i, k) refl)
 
       pub edf-key : isEdfKey (keyOf name) ≡ true → Traces Missing origin.Default
       unfolding lookupIn originIn viewAt
-      edf-key k = rw (not-own, k) (refl, (refl, refl))
+      edf-key k = rw (not-own, k) refl
 
       module _ (i : b .inherits ≡ true) (k : isEdfKey (keyOf name) ≡ false) {q : Value} (general : Tells s q (in-header (b .general))) where
         pub in-general : {p : Span} → q ≡ At p → Traces (At p) origin.General
@@ -125,12 +126,16 @@ module _ (s : List ℕ) (b : Block) (name : List ℕ) where
             let t : Tells s (At p) (in-header (b .general)) = rw c at general in
             by-option (in-header (b .general))
             (λ e. absurd (none-some (sym (rw e at (t .0)))))
-            (λ x e. let u = rw e at t in rw (not-own, i, k, e) (u .0, (u .1, refl)))
+            (λ x e. let u = rw e at t in rw (not-own, i, k, e) (λ j. record { span = u .0 j; value = u .1 j; origin = origin.General }))
 
         pub in-neither : q ≡ Missing → Traces Missing origin.Default
         unfolding lookupIn originIn viewAt
-        in-neither c = rw (not-own, i, k, missing-none s q (in-header (b .general)) general c) (refl, (refl, refl))
+        in-neither c = rw (not-own, i, k, missing-none s q (in-header (b .general)) general c) refl
 
   -- The same value and origin in other words.
   pub traced-by : {r q : Value} {o u : Origin} → (r ≡ q) × (o ≡ u) → Traces q u → Traces r o
   traced-by e h = rw (e .0, e .1) h
+
+  -- What a traced keyword says of its value alone.
+  pub value-alone : (t : Traced) → Traces (t .value) (t .origin) → Tells s (t .value) (lookupIn (viewAt s b) name)
+  value-alone t e = (ap (λ (x : Trace). x .span) e, ap (λ (x : Trace). x .value) e)

@@ -1,4 +1,5 @@
 pub mod Answers
 pub mod Keyword
 pub mod Origin
+pub mod Trace
 pub mod Viewing

@@ -11,7 +11,7 @@ use reading::keys::is_edf_key;
 ghost use mathlib.Core.Path.{_≡_};
 ghost use lib.ListN.{take};
 ghost use Rattle.text.specs.Key.{keyOf};
-ghost use Rattle.keyword.specs.Origin.{originIn};
+ghost use Rattle.keyword.specs.Trace.{traceIn, traceOf};
 ghost use Rattle.keyword.specs.Viewing.{headerEntries, viewAt, valueSpan, valueBytes, entrySpan, entryValue, spanIn, valueIn};
 ghost use Rattle.keyword.specs.declared.Origin.the-variants as origin;
 ghost use Rattle.keyword.specs.declared.Value.the-variants as value;
@@ -55,9 +55,7 @@ fn nowhere() -> Traced
 
 // A key in a block: its value in the own header, then, but for EDF_ keys, in the general header; and which of them has it.
 pub fn trace(file: &[u8], b: Block, key: &[u8]) -> Traced
-    ensures { λ r. ⌜ valueSpan (r .value) ≡ spanIn (viewAt (now (file .entry)) b) (now (key .entry)) ⌝ }
-    ensures { λ r. ⌜ valueBytes (now (file .entry)) (r .value) ≡ valueIn (viewAt (now (file .entry)) b) (now (key .entry)) ⌝ }
-    ensures { λ r. ⌜ r .origin ≡ originIn (viewAt (now (file .entry)) b) (now (key .entry)) ⌝ }
+    ensures { λ r. ⌜ traceOf (now (file .entry)) r ≡ traceIn (viewAt (now (file .entry)) b) (now (key .entry)) ⌝ }
 {
     match value_in(file, b.own, key) {
         Value::At(p) => Traced {

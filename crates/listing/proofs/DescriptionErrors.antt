@@ -13,7 +13,7 @@ use Rattle.scan.specs.declared.Error.{Error}
 use Rattle.text.specs.Number.{wholeNumber}
 use Rattle.keyword.specs.Keyword.{View}
 use Rattle.keyword.specs.Viewing.{valueIn}
-use Rattle.origins.specs.Fields.{valuesBy}
+use Rattle.origins.specs.Fields.{byName}
 use Rattle.origins.specs.Origins.{originsIn}
 use Rattle.origins.specs.declared.Origins.{Origins}
 use Rattle.raster.specs.Axis.{configurations}
@@ -63,7 +63,7 @@ module _ (look : Values) where
       steps FieldError (dimsFrom (foundFirst (dimValues look))) _ (dims-from-errors (foundFirst (dimValues look)))
       (λ ds. checks FieldError (not (eqb (length (foundFirst (dimValues look ++ (look (ascii "Dim_4") ∷ [])))) 4)) 19 0 _ (omega arith) (no-error FieldError (orEmpty ds)))
 
-  words-errors : FieldErrors (wordsOf (valuesBy look))
+  words-errors : FieldErrors (wordsOf (byName look))
   unfolding wordsOf
   words-errors =
       steps FieldError (wordField 1 typeWords 7 (look (ascii "DataType"))) _ (word-errors 1 typeWords 7 (look (ascii "DataType")) (omega arith))
@@ -74,7 +74,7 @@ module _ (look : Values) where
   described-errors : (origins : Origins) (size : ℕ) → FieldErrors (described look origins size)
   unfolding described
   described-errors origins size =
-      steps FieldError (wordsOf (valuesBy look)) _ words-errors
+      steps FieldError (wordsOf (byName look)) _ words-errors
       (λ words. steps FieldError (dimsOf look) _ dims-errors
       (λ dims. steps FieldError (rangeField 5 (configurations (length dims)) 1 (look (ascii "DataRasterConfiguration"))) _
       (range-errors 5 (configurations (length dims)) 1 (look (ascii "DataRasterConfiguration")) (omega arith))

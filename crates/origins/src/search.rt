@@ -6,14 +6,14 @@ use keyword::Origin;
 use keyword::Traced;
 use keyword::lookup::trace;
 ghost use mathlib.Core.Path.{_≡_};
+ghost use Rattle.keyword.specs.Trace.{traceIn};
 ghost use Rattle.keyword.specs.Viewing.{viewAt};
-ghost use Rattle.origins.specs.Fields.{foundValues, valuesIn};
-ghost use Rattle.origins.specs.Origins.{foundOrigins, originsIn};
+ghost use Rattle.origins.specs.Fields.{byName, found};
+ghost use Rattle.origins.specs.Origins.{foundOrigins};
 
 // Each of the seven as its keyword is found.
 pub fn fields_of(file: &[u8], b: Block) -> Fields
-    ensures { λ r. ⌜ foundValues (now (file .entry)) r ≡ valuesIn (viewAt (now (file .entry)) b) ⌝ }
-    ensures { λ r. ⌜ foundOrigins r ≡ originsIn (viewAt (now (file .entry)) b) ⌝ }
+    ensures { λ r. ⌜ found (now (file .entry)) r ≡ byName (traceIn (viewAt (now (file .entry)) b)) ⌝ }
 {
     Fields {
         datatype: trace(file, b, b"DataType"),

@@ -25,7 +25,7 @@ use Rattle.keyword.specs.Viewing.{valueIn}
 use Rattle.raster.specs.Axis.{configurations}
 use Rattle.raster.specs.Position.{product}
 use Rattle.raster.specs.Types.{Class, unsigned, signed, float}
-use Rattle.origins.specs.Fields.{valuesBy}
+use Rattle.origins.specs.Fields.{byName}
 use Rattle.description.specs.Describe.{Values, dimsOf, wordsOf, offsetAllowed, described, descriptionIn, descriptionOf}
 use Rattle.description.specs.Fields.{wordField, rangeField, wholeField, foundFirst, dimsFrom}
 use Rattle.description.proofs.DimLaws.{dimsBy}
@@ -84,7 +84,7 @@ module _ {f : Frame} {title pixels s : List ℕ} (w : Writes f title pixels s) w
   looked : Looks look (valuesOf f pixels) (frameDims f) title
   looked = written-looks w
 
-  words-are : wordsOf (valuesBy look) ≡ ok (record { datatype = f .datatype; byteorder = f .byteorder; compression = 1 })
+  words-are : wordsOf (byName look) ≡ ok (record { datatype = f .datatype; byteorder = f .byteorder; compression = 1 })
   unfolding wordsOf wordField
   words-are =
       rw (looked .type, type-coded (f .datatype) (w .allowed .datatype) .code-is, looked .order, order-coded (f .byteorder) (w .allowed .byteorder) .code-is, looked .compression)

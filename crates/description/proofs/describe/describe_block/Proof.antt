@@ -38,13 +38,13 @@ number-array-requires : tie.Need-number-array-requires
 number-array-requires c κs =
     let d = c .before .before .before in
     let f = d .before .before .before .before .before in
-    dims-small _ (sym (dims-read _ _ (f .before .if1 .left) (f .fields-of .result) (f .fields-of .ensures .0) (d .dims-of .ensures)) ∙ ap measuredOutcome (c .before .dims .given .1))
+    dims-small _ (sym (dims-read _ _ (f .before .if1 .left) (f .fields-of .result) (f .fields-of .ensures) (d .dims-of .ensures)) ∙ ap measuredOutcome (c .before .dims .given .1))
 
 returns-2 : tie.Need-returns-2
 returns-2 c =
     let w = c .before .before .before in
     let f = w .before in
-    bad-words _ _ (f .before .if1 .left) (f .fields-of .result) (f .fields-of .ensures .0) (sym (ap wordedOutcome (c .before .e .given .1)) ∙ w .words-of .ensures)
+    bad-words _ _ (f .before .if1 .left) (f .fields-of .result) (f .fields-of .ensures) (sym (ap wordedOutcome (c .before .e .given .1)) ∙ w .words-of .ensures)
 
 returns-3 : tie.Need-returns-3
 returns-3 c =
@@ -52,7 +52,7 @@ returns-3 c =
     let k = d .before in
     let w = k .before .before .before in
     let f = w .before in
-    bad-dims _ _ (f .before .if1 .left) (f .fields-of .result) (f .fields-of .ensures .0) (sym (ap wordedOutcome (k .before .words .given .1)) ∙ w .words-of .ensures)
+    bad-dims _ _ (f .before .if1 .left) (f .fields-of .result) (f .fields-of .ensures) (sym (ap wordedOutcome (k .before .words .given .1)) ∙ w .words-of .ensures)
     (sym (ap measuredOutcome (c .before .e2 .given .1)) ∙ d .dims-of .ensures)
 
 returns-4 : tie.Need-returns-4
@@ -61,8 +61,8 @@ returns-4 c =
     let k = d .before in
     let w = k .before .before .before in
     let f = w .before in
-    good-dims _ _ (f .before .if1 .left) (f .fields-of .result) (f .fields-of .ensures .0) (sym (ap wordedOutcome (k .before .words .given .1)) ∙ w .words-of .ensures)
-    (sym (ap measuredOutcome (c .before .before .dims .given .1)) ∙ d .dims-of .ensures) (f .fields-of .ensures .1) (c .number-array .ensures)
+    good-dims _ _ (f .before .if1 .left) (f .fields-of .result) (f .fields-of .ensures) (sym (ap wordedOutcome (k .before .words .given .1)) ∙ w .words-of .ensures)
+    (sym (ap measuredOutcome (c .before .before .dims .given .1)) ∙ d .dims-of .ensures) (c .number-array .ensures)
 
 pub describe-block-spec : {M : Type 1} → statement M
 describe-block-spec =

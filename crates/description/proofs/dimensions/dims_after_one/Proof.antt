@@ -1,5 +1,6 @@
 -- `description::dimensions::dims_after_one` meets its contract.
 use mathlib.Core.Path.{sym, ap, _∙_}
+use Rattle.keyword.specs.Trace.{Trace}
 use Rattle.description.specs.Answers.{dimOption}
 use Rattle.description.specs.Parts.{dimRead}
 use Rattle.description.proofs.DimLaws.{no-more, missing, bad-dim, next-dim}
@@ -31,17 +32,17 @@ dims-after-two-requires c κs = search needs
 returns : tie.Need-returns
 returns c =
     let d = c .before .before in
-    no-more _ _ (missing _ (sym (ap dimOption (c .enum-told .given .1)) ∙ d .dim-of .ensures ∙ ap dimRead (d .before .trace .ensures .1 .0)))
+    no-more _ _ (missing _ (sym (ap dimOption (c .enum-told .given .1)) ∙ d .dim-of .ensures ∙ ap (λ (t : Trace). dimRead (t .value)) (d .before .trace .ensures)))
 
 returns-2 : tie.Need-returns-2
 returns-2 c =
     let d = c .before .before .before in
-    bad-dim _ _ _ _ (sym (ap dimOption (c .before .e .given .1)) ∙ d .dim-of .ensures ∙ ap dimRead (d .before .trace .ensures .1 .0))
+    bad-dim _ _ _ _ (sym (ap dimOption (c .before .e .given .1)) ∙ d .dim-of .ensures ∙ ap (λ (t : Trace). dimRead (t .value)) (d .before .trace .ensures))
 
 returns-3 : tie.Need-returns-3
 returns-3 c =
     let d = c .before .before .before .before in
-    next-dim _ _ _ _ (sym (ap dimOption (c .before .before .dim2 .given .1)) ∙ d .dim-of .ensures ∙ ap dimRead (d .before .trace .ensures .1 .0))
+    next-dim _ _ _ _ (sym (ap dimOption (c .before .before .dim2 .given .1)) ∙ d .dim-of .ensures ∙ ap (λ (t : Trace). dimRead (t .value)) (d .before .trace .ensures))
     (c .dims-after-two .ensures)
 
 pub dims-after-one-spec : {M : Type 1} → statement M

@@ -52,26 +52,16 @@ returns c =
     let dims = configuration .before .before in
     let compression = dims .before .before in
     let byteorder = compression .before .before in
-    let datatype = byteorder .before .before in (
-      λ i. record {
-        datatype = datatype .trace .ensures .1 .0 i;
-        byteorder = byteorder .trace2 .ensures .1 .0 i;
-        compression = compression .trace3 .ensures .1 .0 i;
-        dims = dims .trace4 .ensures .1 .0 i;
-        configuration = configuration .trace5 .ensures .1 .0 i;
-        orientation = orientation .trace6 .ensures .1 .0 i;
-        offset = c .trace7 .ensures .1 .0 i;
-      },
-      λ i. record {
-        datatype = datatype .trace .ensures .1 .1 i;
-        byteorder = byteorder .trace2 .ensures .1 .1 i;
-        compression = compression .trace3 .ensures .1 .1 i;
-        dims = dims .trace4 .ensures .1 .1 i;
-        configuration = configuration .trace5 .ensures .1 .1 i;
-        orientation = orientation .trace6 .ensures .1 .1 i;
-        offset = c .trace7 .ensures .1 .1 i;
-      },
-    )
+    let datatype = byteorder .before .before in
+    λ i. record {
+      datatype = datatype .trace .ensures i;
+      byteorder = byteorder .trace2 .ensures i;
+      compression = compression .trace3 .ensures i;
+      dims = dims .trace4 .ensures i;
+      configuration = configuration .trace5 .ensures i;
+      orientation = orientation .trace6 .ensures i;
+      offset = c .trace7 .ensures i;
+    }
 
 pub fields-of-spec : {M : Type 1} → statement M
 fields-of-spec =
