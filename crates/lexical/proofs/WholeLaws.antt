@@ -35,7 +35,7 @@ from-sound (b ∷ r) l a n h e =
     rw (append-assoc l (b ∷ []) r) at (from-sound r (l ++ (b ∷ [])) (a * 10 + (b - 48)) n next (rw t at e)))
     (λ f. absurd (Option·none-ne-some n (rw f at e)))
 
-natural-sound : (l : List ℕ) (n : ℕ) → natural l ≡ some n → Digits l n
+pub natural-sound : (l : List ℕ) (n : ℕ) → natural l ≡ some n → Digits l n
 unfolding natural digitsFrom
 natural-sound [] n e = absurd (Option·none-ne-some n e)
 natural-sound (b ∷ r) n e =
@@ -77,7 +77,7 @@ front (more {l} {n} {d} h k) =
     let f = front h in
     record { byte = f .byte; rest = f .rest ++ ((48 + d) ∷ []); is = ap (λ (x : List ℕ). x ++ ((48 + d) ∷ [])) (f .is); low = f .low }
 
-natural-complete : {l : List ℕ} {n : ℕ} → Digits l n → natural l ≡ some n
+pub natural-complete : {l : List ℕ} {n : ℕ} → Digits l n → natural l ≡ some n
 unfolding natural
 natural-complete {l} {n} h =
     let f = front h in

@@ -1,0 +1,6 @@
+pub mod Answers
+pub mod Cut
+pub mod Form
+pub mod Measure
+pub mod Numeral
+pub mod Real

@@ -1,0 +1,5 @@
+pub mod Answers
+pub mod Capped
+pub mod Limits
+pub mod Nearest
+pub mod Scale
