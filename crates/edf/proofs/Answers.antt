@@ -10,12 +10,13 @@ use Rattle.blocks.specs.declared.Opened.{Opened}
 use Rattle.blocks.specs.declared.Row.{Row}
 use Rattle.keyword.specs.declared.Located.{Located}
 use Rattle.keyword.specs.declared.Number.{Number}
+use Rattle.reals.specs.declared.Measured.{Measured}
 use Rattle.description.specs.declared.Described.{Described}
 use Rattle.array.specs.declared.Sampled.{Sampled}
 use Rattle.stored.specs.declared.Stored.{Stored}
 use Rattle.listing.specs.Listing.{listing}
-use Rattle.edf.specs.Calls.{IntoBuffer, Puts, Open, Find, WholeNumber, Describe, Stores, ReadPixel, Lists}
-use Rattle.edf.proofs.CallLaws.{opened-by, located-by, number-by, described-by, sampled-by, stored-by, with-room, same-written}
+use Rattle.edf.specs.Calls.{IntoBuffer, Puts, Open, Find, WholeNumber, ReadReal, Describe, Stores, ReadPixel, Lists}
+use Rattle.edf.proofs.CallLaws.{opened-by, located-by, number-by, measured-by, described-by, sampled-by, stored-by, with-room, same-written}
 
 -- ---- One answer
 
@@ -28,6 +29,9 @@ one-place {r = r} {q = q} c d = located-by r (c .answers) ∙ sym (located-by q 
 
 pub one-number : {s : List ℕ} {block : ℕ} {key : List ℕ} {r q : Number} → WholeNumber s block key r → WholeNumber s block key q → r ≡ q
 one-number {r = r} {q = q} c d = number-by r (c .answers) ∙ sym (number-by q (d .answers))
+
+pub one-real : {s : List ℕ} {block : ℕ} {key : List ℕ} {r q : Measured} → ReadReal s block key r → ReadReal s block key q → r ≡ q
+one-real {r = r} {q = q} c d = measured-by r (c .answers) ∙ sym (measured-by q (d .answers))
 
 pub one-description : {s : List ℕ} {block : ℕ} {r q : Described} → Describe s block r → Describe s block q → r ≡ q
 one-description {r = r} {q = q} c d = described-by r (c .answers) ∙ sym (described-by q (d .answers))

@@ -37,6 +37,10 @@ use Rattle.keyword.specs.declared.Located.{Located}
 use Rattle.keyword.specs.declared.Located.the-variants as located
 use Rattle.keyword.specs.declared.Number.{Number}
 use Rattle.keyword.specs.declared.Number.the-variants as number
+use Rattle.reals.specs.Answers.{measuredOutcome}
+use Rattle.reals.specs.declared.Measured.{Measured}
+use Rattle.reals.specs.declared.Measured.the-variants as measured
+use Rattle.reals.specs.declared.Real.{Real}
 use Rattle.description.specs.Answers.{describedOutcome}
 use Rattle.description.specs.Describe.{descriptionIn, descriptionOf}
 use Rattle.description.specs.Shape.{arrayType, arrayDims}
@@ -101,6 +105,14 @@ pub number-by : (r : Number) {o : Outcome ℤ} → numberOutcome r ≡ o → r �
 number-by (number.Value z) e = ap numberBy e
 number-by (number.Failed x) e = ap numberBy e
 
+abbrev pub measuredBy : Outcome Real → Measured
+measuredBy (ok x) = measured.Value x
+measuredBy (failed e) = measured.Failed e
+
+pub measured-by : (r : Measured) {o : Outcome Real} → measuredOutcome r ≡ o → r ≡ measuredBy o
+measured-by (measured.Value x) e = ap measuredBy e
+measured-by (measured.Failed x) e = ap measuredBy e
+
 abbrev pub describedBy : Outcome Description → Described
 describedBy (ok d) = described.Array d
 describedBy (failed e) = described.Failed e
@@ -136,6 +148,9 @@ located-as = answers-as locatedOutcome locatedBy (λ r. located-by r refl)
 
 pub number-as : (r a : Number) {o : Outcome ℤ} → numberOutcome r ≡ o → (r ≡ a) ↔ (o ≡ numberOutcome a)
 number-as = answers-as numberOutcome numberBy (λ r. number-by r refl)
+
+pub measured-as : (r a : Measured) {o : Outcome Real} → measuredOutcome r ≡ o → (r ≡ a) ↔ (o ≡ measuredOutcome a)
+measured-as = answers-as measuredOutcome measuredBy (λ r. measured-by r refl)
 
 pub described-as : (r a : Described) {o : Outcome Description} → describedOutcome r ≡ o → (r ≡ a) ↔ (o ≡ describedOutcome a)
 described-as = answers-as describedOutcome describedBy (λ r. described-by r refl)

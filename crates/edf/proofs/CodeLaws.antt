@@ -24,6 +24,9 @@ use Rattle.blocks.specs.declared.Row.{Row}
 use Rattle.blocks.proofs.Errors.{error-bounded}
 use Rattle.blocks.proofs.Sound.{error-sound}
 use Rattle.keyword.specs.Keyword.{View, entriesAt, generalEntries, isGeneral, viewOf, lookupIn, entryOf, found, wholeNumberOf, textIn}
+use Rattle.reals.specs.Numeral.{numeralOf}
+use Rattle.reals.specs.Real.{isBounded, judged, realOf}
+use Rattle.quantities.specs.Real.{realIn}
 use Rattle.raster.specs.Position.{product}
 use Rattle.description.specs.Describe.{descriptionIn, descriptionOf}
 use Rattle.array.specs.Delivery.{isOrder, isIndex, arrayOf, arrayIn, pixelIn}
@@ -32,7 +35,7 @@ use Rattle.frame.specs.File.{frameDims, frameType, frameAllowed, fileOf, writte
 use Rattle.frame.specs.declared.Frame.{Frame}
 use Rattle.listing.proofs.DescriptionErrors.{description-errors}
 use Rattle.listing.proofs.ErrorLaws.{Errors, no-error, one-error, presence, checks, steps}
-use Rattle.edf.specs.Codes.{within, openCodes, findCodes, numberCodes, textCodes, describeCodes, arrayCodes, storedCodes, pixelCodes, writeCodes, listCodes, IsCodes, of-open, of-find, of-number, of-text, of-describe, of-array, of-stored, of-pixel, of-write, of-list}
+use Rattle.edf.specs.Codes.{within, openCodes, findCodes, numberCodes, realCodes, textCodes, describeCodes, arrayCodes, storedCodes, pixelCodes, writeCodes, listCodes, IsCodes, of-open, of-find, of-number, of-real, of-text, of-describe, of-array, of-stored, of-pixel, of-write, of-list}
 
 -- All errors of a definition have codes that pass a test.
 abbrev Coded : (ℕ → Bool) → Error → Type 0
@@ -145,6 +148,10 @@ number-all : (c : ℕ) → 3 ≤ c → c ≤ 16 → numberCodes c ≡ true
 unfolding numberCodes
 number-all c l h = or-left (findCodes c) (eqb c 18) (find-all c l h)
 
+real-all : (c : ℕ) → 3 ≤ c → c ≤ 16 → realCodes c ≡ true
+unfolding realCodes
+real-all c l h = or-left (findCodes c) (eqb c 18 || eqb c 27) (find-all c l h)
+
 text-all : (c : ℕ) → 3 ≤ c → c ≤ 16 → textCodes c ≡ true
 unfolding textCodes
 text-all c l h = or-left (findCodes c) (eqb c 25 || eqb c 22) (find-all c l h)
@@ -172,6 +179,13 @@ module _ (s : List ℕ) (block : ℕ) where
   number-gives key =
       steps (Coded numberCodes) (entryOf s block key) _ (entry-gives numberCodes 16 (omega arith) refl number-all s block key)
       (λ e. presence (Coded numberCodes) (wholeNumber (e .value)) 18 0 refl)
+
+  pub real-gives : (key : List ℕ) → Gives realCodes (realIn s block key)
+  unfolding realIn realOf judged realCodes findCodes
+  real-gives key =
+      steps (Coded realCodes) (entryOf s block key) _ (entry-gives realCodes 16 (omega arith) refl real-all s block key)
+      (λ e. steps (Coded realCodes) (present (numeralOf (e .value)) 18 0) _ (presence (Coded realCodes) (numeralOf (e .value)) 18 0 refl)
+      (λ x. checks (Coded realCodes) (isBounded x) 27 0 _ refl (no-error (Coded realCodes) _)))
 
   pub describe-gives : Gives describeCodes (descriptionOf s block)
   unfolding descriptionOf describeCodes
@@ -260,10 +274,11 @@ module _ (d : List ℕ) where
 -- ---- Code 0
 
 pub no-zero : (t : ℕ → Bool) → IsCodes t → t 0 ≡ false
-unfolding openCodes findCodes numberCodes textCodes describeCodes arrayCodes storedCodes pixelCodes writeCodes listCodes
+unfolding openCodes findCodes numberCodes realCodes textCodes describeCodes arrayCodes storedCodes pixelCodes writeCodes listCodes
 no-zero t of-open = refl
 no-zero t of-find = refl
 no-zero t of-number = refl
+no-zero t of-real = refl
 no-zero t of-text = refl
 no-zero t of-describe = refl
 no-zero t of-array = refl

@@ -10,14 +10,15 @@ use Rattle.blocks.specs.declared.Opened.the-variants as opened
 use Rattle.blocks.specs.declared.Row.{Row}
 use Rattle.keyword.specs.declared.Located.the-variants as located
 use Rattle.keyword.specs.declared.Number.the-variants as number
+use Rattle.reals.specs.declared.Measured.the-variants as measured
 use Rattle.description.specs.declared.Described.the-variants as described
 use Rattle.array.specs.declared.Sampled.the-variants as sampled
 use Rattle.stored.specs.declared.Stored.the-variants as stored
 use Rattle.frame.specs.declared.Frame.{Frame}
 use Rattle.listing.specs.Listing.{listing}
-use Rattle.edf.specs.Codes.{openCodes, findCodes, numberCodes, textCodes, describeCodes, arrayCodes, storedCodes, pixelCodes, writeCodes, listCodes, IsCodes}
-use Rattle.edf.specs.Calls.{Open, Find, WholeNumber, Text, Escape, Unescape, Describe, ReadArray, Stores, ReadPixel, Write, Lists}
-use Rattle.edf.proofs.CodeLaws.{open-gives, find-gives, number-gives, describe-gives, pixel-gives, text-gives, array-read-gives, stored-gives, escape-gives, unescape-gives, write-gives, list-gives, no-zero}
+use Rattle.edf.specs.Codes.{openCodes, findCodes, numberCodes, realCodes, textCodes, describeCodes, arrayCodes, storedCodes, pixelCodes, writeCodes, listCodes, IsCodes}
+use Rattle.edf.specs.Calls.{Open, Find, WholeNumber, ReadReal, Text, Escape, Unescape, Describe, ReadArray, Stores, ReadPixel, Write, Lists}
+use Rattle.edf.proofs.CodeLaws.{open-gives, find-gives, number-gives, real-gives, describe-gives, pixel-gives, text-gives, array-read-gives, stored-gives, escape-gives, unescape-gives, write-gives, list-gives, no-zero}
 
 pub open-codes : {s : List ℕ} {before after : List Row} {x : Error} → Open s before (opened.Failed x) after → openCodes (x .code) ≡ true
 open-codes {s} {before} c = open-gives (length before) s .hold (sym (c .answers))
@@ -28,6 +29,9 @@ module _ {s : List ℕ} {block : ℕ} {x : Error} where
 
   pub number-codes : {key : List ℕ} → WholeNumber s block key (number.Failed x) → numberCodes (x .code) ≡ true
   number-codes {key} c = number-gives s block key .hold (sym (c .answers))
+
+  pub real-codes : {key : List ℕ} → ReadReal s block key (measured.Failed x) → realCodes (x .code) ≡ true
+  real-codes {key} c = real-gives s block key .hold (sym (c .answers))
 
   pub describe-codes : Describe s block (described.Failed x) → describeCodes (x .code) ≡ true
   describe-codes c = describe-gives s block .hold (sym (c .answers))

@@ -11,11 +11,12 @@ use contract.Monad.{Fun, fact, factI, fact-mono, fact-use}
 use denote.Ref.{now}
 use denote.Triple.Clauses.{Ended, AtExit, Clauses}
 use denote.Triple.Entry.{Args, Res}
-use Rattle.edf.specs.Calls.{Open, Find, Part, WholeNumber, Text, Escape, Unescape, Describe, ReadArray, Stores, ReadPixel, Write, Lists}
+use Rattle.edf.specs.Calls.{Open, Find, Part, WholeNumber, ReadReal, Text, Escape, Unescape, Describe, ReadArray, Stores, ReadPixel, Write, Lists}
 use Rattle.edf.proofs.open as open′
 use Rattle.edf.proofs.find as find
 use Rattle.edf.proofs.part as part
 use Rattle.edf.proofs.whole_number as whole-number
+use Rattle.edf.proofs.real as real
 use Rattle.edf.proofs.text as text
 use Rattle.edf.proofs.escape as escape
 use Rattle.edf.proofs.unescape as unescape
@@ -52,6 +53,9 @@ module _ {M : Type 1} (𝓤 : URA M) (H : Heap 𝓤) (A : Atoms 𝓤) (mem : Mem
   pub numbers : Gives whole-number.ended (whole-number.clauses 𝓤 H A mem run)
       (λ κs a r e. WholeNumber (now (a .0)) (a .1 .0) (now (a .1 .1 .0)) r)
   numbers κs a g r e = fact-mono 𝓤 _ _ (λ x. record { answers = x })
+
+  pub reals : Gives real.ended (real.clauses 𝓤 H A mem run) (λ κs a r e. ReadReal (now (a .0)) (a .1 .0) (now (a .1 .1 .0)) r)
+  reals κs a g r e = fact-mono 𝓤 _ _ (λ x. record { answers = x })
 
   pub texts : Gives text.ended (text.clauses 𝓤 H A mem run)
       (λ κs a r e. Text (now (a .0)) (a .1 .0) (now (a .1 .1 .0)) (now (a .1 .1 .1 .0)) r (now (e .1 .1 .1 .0)))

@@ -1,9 +1,12 @@
--- The examples that 01 marks P ("Examples both sides"), as one table under one statement, proved by computing.
+-- The examples that 01 marks P ("Examples both sides"), as one table under one statement, proved by computing; and a table for the real
+-- numbers of 02, No. 2, both sides of each bound.
 use mathlib.Core.Path.{refl}
 use mathlib.Core.List.{List, [], _∷_}
 use lib.IntN.{pos, negsuc}
+use lib.Ieee.{binary64, ofBits, round, neg}
 use Rattle.scan.specs.Byte.{ascii, same}
-use Rattle.scan.specs.Outcome.{refused}
+use Rattle.scan.specs.Outcome.{ok, refused}
+use Rattle.scan.specs.Search.{firstFrom}
 use Rattle.text.specs.Escapes.{letter, letters, lookupByte, meaning, meanings}
 use Rattle.text.specs.Number.{digit, digitsFrom, natural, wholeNumber}
 use Rattle.text.specs.Text.{escapedBody, quotedText, textOf, unescapedAfter, withoutLineBreaks}
@@ -12,6 +15,11 @@ use Rattle.text.specs.Whitespace.{whitespace}
 use Rattle.header.specs.Frame.{openingAt, frameAt, headerAt}
 use Rattle.blocks.specs.Judging.{blockAt}
 use Rattle.blocks.specs.Opening.{openedFrom, opened}
+use Rattle.scaling.specs.Scale.{scaled}
+use Rattle.reals.specs.Measure.{measureNamed}
+use Rattle.reals.specs.Numeral.{withDigits, withoutSign, withSign, withExponent, numeralOf}
+use Rattle.reals.specs.Real.{judged, realOf}
+use Rattle.reals.specs.declared.Real.the-variants.{Number, Metres, Degrees, Radians}
 use Rattle.raster.specs.Axis.{forward, backward, configurations, insertWithAfter, orderFrom, orderOf}
 use Rattle.raster.specs.Bytes.{highFirst, numberOf, highBytes, bytesOf, joined}
 use Rattle.raster.specs.Element.{nearest, offsetBits, elementBits, elementBytes}
@@ -21,7 +29,7 @@ use Rattle.description.specs.Describe.{dimsOf, wordsOf, described}
 use Rattle.description.specs.Fields.{wordField, rangeField, foundFirst, dimsFrom}
 use Rattle.array.specs.Delivery.{storedElement, deliveredElement, delivered}
 use Rattle.frame.specs.File.{pixelBytes, storedPixels}
-use Rattle.edf.specs.Example.{Example, stored-as, order-is, fields-refused, offset-gives, text-is, value-form, opens-as, Field, Each}
+use Rattle.edf.specs.Example.{Example, stored-as, order-is, fields-refused, offset-gives, text-is, value-form, opens-as, real-is, Field, Each}
 
 -- Three dimensions, and configuration 49.
 unfoldable pub fortyNine : List Field
@@ -51,3 +59,32 @@ pub examples-hold : Each table
 unfolding table fortyNine delivered deliveredElement storedElement elementBytes elementBits offsetBits nearest typeOf types numberOf highFirst bytesOf highBytes joined storedPosition positionFrom orderOf orderFrom insertWithAfter configurations storedPixels pixelBytes product indexAt linearPosition described wordsOf wordField dimsOf dimsFrom foundFirst rangeField wholeNumber natural digitsFrom digit same textOf unescapedAfter withoutLineBreaks meaning meanings lookupByte valueOf valueSpan trimmed leading trimmedEnd whitespace withoutOpeningQuote withoutClosingQuote quotedText escapedBody letter letters opened openedFrom blockAt headerAt frameAt openingAt
 examples-hold =
     (λ o. (refl, refl), (λ o. (refl, refl), (λ o. (refl, refl), (λ o. (refl, refl), (refl, (refl, (λ o. refl, (refl, (refl, (refl, (refl, (refl, (refl, tt)))))))))))))
+
+-- Floats by their bits.
+unfoldable pub reals : List Example
+reals =
+    real-is (ascii "-1.234e+2") (ok (Number (ofBits binary64 0xc05e_d999_9999_999a)))
+    ∷ real-is (ascii "32.5_deg") (ok (Degrees (ofBits binary64 0x4040_4000_0000_0000)))
+    ∷ real-is (ascii "-0") (ok (Number (ofBits binary64 0x8000_0000_0000_0000)))
+    ∷ real-is (ascii ".5") (ok (Number (ofBits binary64 0x3fe0_0000_0000_0000)))
+    ∷ real-is (ascii "5.") (ok (Number (ofBits binary64 0x4014_0000_0000_0000)))
+    ∷ real-is (ascii "9007199254740992") (ok (Number (ofBits binary64 0x4340_0000_0000_0000)))
+    ∷ real-is (ascii "9007199254740993") (refused 27 0)
+    ∷ real-is (ascii "1e22_m") (ok (Metres (ofBits binary64 0x4480_f0cf_064d_d592)))
+    ∷ real-is (ascii "1e23") (refused 27 0)
+    ∷ real-is (ascii "1e-22_rad") (ok (Radians (ofBits binary64 0x3b5e_3920_1017_5ee6)))
+    ∷ real-is (ascii "0.1e-22") (refused 27 0)
+    ∷ real-is (ascii "0.1e23") (ok (Number (ofBits binary64 0x4480_f0cf_064d_d592)))
+    ∷ real-is (ascii "0e23") (refused 27 0)
+    ∷ real-is (ascii "1E5") (refused 18 0)
+    ∷ real-is (ascii "1_km") (refused 18 0)
+    ∷ real-is (ascii "1.2.3") (refused 18 0)
+    ∷ real-is (ascii ".") (refused 18 0)
+    ∷ real-is [] (refused 18 0)
+    ∷ real-is (ascii "1e9223372036854775807") (refused 27 0)
+    ∷ real-is (ascii "1e9223372036854775808") (refused 18 0)
+    ∷ []
+
+pub reals-hold : Each reals
+unfolding reals realOf judged numeralOf withExponent withSign withoutSign withDigits measureNamed scaled same firstFrom wholeNumber natural digitsFrom digit round neg ofBits
+reals-hold = (refl, (refl, (refl, (refl, (refl, (refl, (refl, (refl, (refl, (refl, (refl, (refl, (refl, (refl, (refl, (refl, (refl, (refl, (refl, (refl, tt))))))))))))))))))))

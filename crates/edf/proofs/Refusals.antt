@@ -15,6 +15,8 @@ use Rattle.keyword.specs.declared.Located.{Located}
 use Rattle.keyword.specs.declared.Located.the-variants as located
 use Rattle.keyword.specs.declared.Number.{Number}
 use Rattle.keyword.specs.declared.Number.the-variants as number
+use Rattle.reals.specs.declared.Measured.{Measured}
+use Rattle.reals.specs.declared.Measured.the-variants as measured
 use Rattle.description.specs.declared.Described.{Described}
 use Rattle.description.specs.declared.Described.the-variants as described
 use Rattle.array.specs.declared.Sampled.{Sampled}
@@ -22,8 +24,9 @@ use Rattle.array.specs.declared.Sampled.the-variants as sampled
 use Rattle.stored.specs.declared.Stored.{Stored}
 use Rattle.stored.specs.declared.Stored.the-variants as stored
 use Rattle.fields.proofs.ReadLaws.{not-found, no-number, no-text}
-use Rattle.edf.specs.Calls.{IntoBuffer, Open, Find, WholeNumber, Text, Describe, ReadArray, Stores, ReadPixel}
-use Rattle.edf.proofs.CallLaws.{located-by, number-by, described-by, sampled-by, stored-by, kept, refused-by}
+use Rattle.quantities.proofs.ReadLaws.{no-real}
+use Rattle.edf.specs.Calls.{IntoBuffer, Open, Find, WholeNumber, ReadReal, Text, Describe, ReadArray, Stores, ReadPixel}
+use Rattle.edf.proofs.CallLaws.{located-by, number-by, measured-by, described-by, sampled-by, stored-by, kept, refused-by}
 use Rattle.edf.proofs.CallLaws.{no-entry, no-description, array-refused, stored-refused, pixel-refused}
 use Rattle.edf.proofs.OpeningLaws.{promised}
 
@@ -51,6 +54,9 @@ module _ {s : List ℕ} {table left : List Row} {x : Error} (rows : 256 ≤ leng
 
   pub number-refuses : {key : List ℕ} {r : Number} → WholeNumber s block key r → r ≡ number.Failed x
   number-refuses {key} {r} c = number-by r (c .answers ∙ no-number s block key (no-entry rows refuses block key))
+
+  pub real-refuses : {key : List ℕ} {r : Measured} → ReadReal s block key r → r ≡ measured.Failed x
+  real-refuses {key} {r} c = measured-by r (c .answers ∙ no-real s block key (no-entry rows refuses block key))
 
   pub text-refuses : (key : List ℕ) {before after : List ℕ} {r : Written} → Text s block key before r after → (r ≡ Failed x) × (after ≡ before)
   text-refuses key c = refused-by (no-text s block key (no-entry rows refuses block key)) c

@@ -22,6 +22,9 @@ use Rattle.keyword.specs.Answers.{locatedOutcome, locatedBytes, numberOutcome}
 use Rattle.keyword.specs.Keyword.{found, valueFound, wholeNumberOf, textIn}
 use Rattle.keyword.specs.declared.Located.{Located}
 use Rattle.keyword.specs.declared.Number.{Number}
+use Rattle.reals.specs.Answers.{measuredOutcome}
+use Rattle.reals.specs.declared.Measured.{Measured}
+use Rattle.quantities.specs.Real.{realIn}
 use Rattle.raster.specs.Strided.{Octets}
 use Rattle.description.specs.Answers.{describedOutcome}
 use Rattle.description.specs.Describe.{descriptionOf}
@@ -61,6 +64,10 @@ pub record Part (file : List ℕ) (p : Span) (r : List ℕ) : Type 0 where
 -- whole_number(file, block, key)
 pub record WholeNumber (file : List ℕ) (block : ℕ) (key : List ℕ) (r : Number) : Type 0 where
   pub answers : numberOutcome r ≡ wholeNumberOf file block key
+
+-- real(file, block, key)
+pub record ReadReal (file : List ℕ) (block : ℕ) (key : List ℕ) (r : Measured) : Type 0 where
+  pub answers : measuredOutcome r ≡ realIn file block key
 
 -- text(file, block, key, out)
 abbrev pub Text : List ℕ → ℕ → List ℕ → List ℕ → Written → List ℕ → Type 0

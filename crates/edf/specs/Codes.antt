@@ -18,6 +18,10 @@ findCodes c = eqb c 1 || within 3 16 c
 unfoldable pub numberCodes : ℕ → Bool
 numberCodes c = findCodes c || eqb c 18
 
+-- real: 18 and 27 besides.
+unfoldable pub realCodes : ℕ → Bool
+realCodes c = findCodes c || (eqb c 18 || eqb c 27)
+
 -- text: 25 and 22 besides.
 unfoldable pub textCodes : ℕ → Bool
 textCodes c = findCodes c || (eqb c 25 || eqb c 22)
@@ -51,6 +55,7 @@ pub data IsCodes : (ℕ → Bool) → Type 0 where
   of-open : IsCodes openCodes
   of-find : IsCodes findCodes
   of-number : IsCodes numberCodes
+  of-real : IsCodes realCodes
   of-text : IsCodes textCodes
   of-describe : IsCodes describeCodes
   of-array : IsCodes arrayCodes

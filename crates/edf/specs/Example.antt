@@ -1,4 +1,4 @@
--- A worked example of 01: what a definition gives, beside what 01 says that it gives.
+-- A worked example of 01 or 02: what a definition gives, beside what the document says that it gives.
 use mathlib.Core.Path.{_≡_}
 use mathlib.Core.List.{List, [], _∷_}
 use mathlib.Core.Option.{none, some}
@@ -14,6 +14,8 @@ use Rattle.blocks.specs.declared.Row.{Row}
 use Rattle.raster.specs.Axis.{Axis, orderOf}
 use Rattle.raster.specs.Element.{elementBits}
 use Rattle.raster.specs.Types.{typeOf}
+use Rattle.reals.specs.Real.{realOf}
+use Rattle.reals.specs.declared.Real.{Real}
 use Rattle.origins.specs.declared.Origins.{Origins}
 use Rattle.description.specs.Describe.{described, Values}
 use Rattle.description.specs.declared.Description.{Description}
@@ -77,6 +79,8 @@ pub data Example : Type 0 where
   value-form : List ℕ → List ℕ → Example
   -- A file and what opening answers.
   opens-as : List ℕ → Outcome (List Row) → Example
+  -- A value and the real number that it stands for.
+  real-is : List ℕ → Outcome Real → Example
 
 -- What an example says of the definitions.
 abbrev pub Holds : Example → Type 0
@@ -89,6 +93,7 @@ Holds (offset-gives type l offset n) = elementBits (typeOf type) 1 offset l ≡ 
 Holds (text-is value text) = textOf (valueOf value) ≡ text
 Holds (value-form text value) = quotedText text ≡ value
 Holds (opens-as s answer) = opened s ≡ answer
+Holds (real-is value answer) = realOf value ≡ answer
 
 abbrev pub Each : List Example → Type 0
 Each [] = Unit {0}

@@ -8,6 +8,7 @@ use description::Described;
 use frame::Frame;
 use keyword::Located;
 use keyword::Number;
+use reals::Measured;
 use scan::Span;
 use stored::Stored;
 use text::Written;
@@ -24,6 +25,8 @@ ghost use Rattle.blocks.specs.Answers.{openedOutcome};
 ghost use Rattle.blocks.specs.Opening.{openedInto, countOf, tableAfter};
 ghost use Rattle.keyword.specs.Answers.{locatedOutcome, locatedBytes, numberOutcome};
 ghost use Rattle.keyword.specs.Keyword.{found, valueFound, wholeNumberOf, textIn};
+ghost use Rattle.reals.specs.Answers.{measuredOutcome};
+ghost use Rattle.quantities.specs.Real.{realIn};
 ghost use Rattle.raster.specs.Strided.{Octets};
 ghost use Rattle.description.specs.Answers.{describedOutcome};
 ghost use Rattle.description.specs.Describe.{descriptionOf};
@@ -70,6 +73,15 @@ pub fn whole_number(file: &[u8], block: usize, key: &[u8]) -> Number
     ensures { λ r. ⌜ numberOutcome r ≡ wholeNumberOf (now (file .entry)) block (now (key .entry)) ⌝ }
 {
     keyword::read::whole_number(file, block, key)
+}
+
+// The value of a keyword as a real number: a bare number, metres, degrees or radians, with the 64-bit float nearest to what is written,
+// rounded once. Errors: those of opening; 16 no such block or keyword; 18 no real number; 27 its digits or its power of ten are outside
+// the bounds, 9,007,199,254,740,992 and -22 to 22. The position of 18 and 27 is 0.
+pub fn real(file: &[u8], block: usize, key: &[u8]) -> Measured
+    ensures { λ r. ⌜ measuredOutcome r ≡ realIn (now (file .entry)) block (now (key .entry)) ⌝ }
+{
+    quantities::real(file, block, key)
 }
 
 // The value of a keyword as text, at the front of the lent buffer: how many bytes. Errors, in which the buffer is untouched:

@@ -6,3 +6,4 @@ pub mod JudgedLaws
 pub mod Main
 pub mod OneReading
 pub mod SplitLaws
+pub mod ValueLaws
