@@ -76,6 +76,7 @@ reals =
     ∷ real-is (ascii "0.1e-22") (refused 27 0)
     ∷ real-is (ascii "0.1e23") (ok (Number (ofBits binary64 0x4480_f0cf_064d_d592)))
     ∷ real-is (ascii "0e23") (refused 27 0)
+    ∷ real-is (ascii "1801439850948199e1") (ok (Number (ofBits binary64 0x4350_0000_0000_0002)))
     ∷ real-is (ascii "1E5") (refused 18 0)
     ∷ real-is (ascii "1_km") (refused 18 0)
     ∷ real-is (ascii "1.2.3") (refused 18 0)
@@ -87,4 +88,4 @@ reals =
 
 pub reals-hold : Each reals
 unfolding reals realOf judged numeralOf withExponent withSign withoutSign withDigits measureNamed scaled same firstFrom wholeNumber natural digitsFrom digit round neg ofBits
-reals-hold = (refl, (refl, (refl, (refl, (refl, (refl, (refl, (refl, (refl, (refl, (refl, (refl, (refl, (refl, (refl, (refl, (refl, (refl, (refl, (refl, tt))))))))))))))))))))
+reals-hold = (refl, (refl, (refl, (refl, (refl, (refl, (refl, (refl, (refl, (refl, (refl, (refl, (refl, (refl, (refl, (refl, (refl, (refl, (refl, (refl, (refl, tt)))))))))))))))))))))

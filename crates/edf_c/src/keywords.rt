@@ -2,12 +2,16 @@
 use crate::answers::put_written;
 use keyword::Located;
 use keyword::Number;
+use reals::Measured;
+use reals::measures;
 ghost use mathlib.Core.Path.{_≡_};
 ghost use Rattle.scan.specs.Buffer.{lengthWritten, bufferAfter};
 ghost use Rattle.scan.specs.Byte.{partOf};
 ghost use Rattle.keyword.specs.Keyword.{found, valueFound, wholeNumberOf, textIn};
-ghost use Rattle.edf_c.specs.Answers.{codeOf, valueAfter, positionAfter, withValue};
+ghost use Rattle.quantities.specs.Real.{realIn};
+ghost use Rattle.edf_c.specs.Answers.{codeOf, valueAfter, positionAfter, withValue, mapped};
 ghost use Rattle.edf_c.specs.Fields.{spanOf};
+ghost use Rattle.edf_c.specs.Reals.{unitAndFloat, realNumbers};
 
 // Where the value of a keyword of a block stands in the file, by its offset and its length: `edf::find`. The bytes there are the
 // value.
@@ -76,6 +80,33 @@ pub extern "C" fn edf_whole_number(
             0
         }
         Number::Failed(e) => {
+            *position = e.position;
+            e.code
+        }
+    }
+}
+
+// The value of a keyword of a block as a real number: `edf::real`. The number of its unit, and its float.
+#[no_mangle]
+pub extern "C" fn edf_real(
+    file: &[u8],
+    block: usize,
+    key: &[u8],
+    unit: &mut u8,
+    value: &mut f64,
+    position: &mut usize,
+) -> u8
+    ensures { λ r. ⌜ r ≡ codeOf (realIn (now (file .entry)) block (now (key .entry))) ⌝ }
+    ensures { λ _. ⌜ unitAndFloat (now (unit .exit)) (now (value .exit)) ≡ valueAfter (mapped realNumbers (realIn (now (file .entry)) block (now (key .entry)))) (unitAndFloat (now (unit .entry)) (now (value .entry))) ⌝ }
+    ensures { λ _. ⌜ now (position .exit) ≡ positionAfter (realIn (now (file .entry)) block (now (key .entry))) (now (position .entry)) ⌝ }
+{
+    match edf::real(file, block, key) {
+        Measured::Value(x) => {
+            *unit = measures::unit_of(x);
+            *value = measures::float_of(x);
+            0
+        }
+        Measured::Failed(e) => {
             *position = e.position;
             e.code
         }

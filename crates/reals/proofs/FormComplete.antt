@@ -119,8 +119,11 @@ module _ {l : List ℕ} {p : Pieces} {x : Numeral} (h : Reading l p x) where
 
   pub complete : numeralOf l ≡ some x
   complete =
-      rw (cut, measure-gives ((p .sign ++ p .digits) ++ p .exponent) measure-front-free (h .measure-is),
-      exponent-gives (x .measure) (p .sign ++ p .digits) front-free (h .exponent-is))
+      rw (
+        cut,
+        measure-gives ((p .sign ++ p .digits) ++ p .exponent) measure-front-free (h .measure-is),
+        exponent-gives (x .measure) (p .sign ++ p .digits) front-free (h .exponent-is),
+      )
       (sign-gives (x .measure) (h .exponent) (h .sign-is) (p .digits) digits-minus-free digits-plus-free
       ∙ decimal-gives (x .measure) (x .negative) (h .exponent) (h .digits-are)
       ∙ rw (sym (h .power-is)))

@@ -142,16 +142,17 @@ sound l {x} e =
     let p : Pieces = record { sign = s .sign; digits = s .digits; exponent = from 101 (after v k); measure = from 95 (after u l) } in
     let cut : l ≡ s .sign ++ (s .digits ++ (from 101 (after v k) ++ from 95 (after u l))) =
     rejoined 95 l ∙ ap (λ (r : List ℕ). r ++ from 95 (after u l)) (rejoined 101 k ∙ ap (λ (r : List ℕ). r ++ from 101 (after v k)) (s .is))
-    ∙ simp append-assoc in
-    (p,
-    subst (λ (y : Numeral). form.Reading l p y) (d .says)
-    (record {
-      exponent = z .0;
-      places = d .places;
-      is = cut;
-      sign-is = s .sign-is;
-      digits-are = d .is;
-      exponent-is = exponent-is (after v k) (z .1);
-      measure-is = measure-is (after u l) (m .1);
-      power-is = refl;
-    }))
+    ∙ simp append-assoc in (
+      p,
+      subst (λ (y : Numeral). form.Reading l p y) (d .says)
+          (record {
+            exponent = z .0;
+            places = d .places;
+            is = cut;
+            sign-is = s .sign-is;
+            digits-are = d .is;
+            exponent-is = exponent-is (after v k) (z .1);
+            measure-is = measure-is (after u l) (m .1);
+            power-is = refl;
+          }),
+    )

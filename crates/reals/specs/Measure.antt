@@ -36,8 +36,8 @@ unitOf (real.Metres x) = 1
 unitOf (real.Degrees x) = 2
 unitOf (real.Radians x) = 3
 
-abbrev pub valueOf : Real → Float
-valueOf (real.Number x) = x
-valueOf (real.Metres x) = x
-valueOf (real.Degrees x) = x
-valueOf (real.Radians x) = x
+abbrev pub floatOf : Real → Float
+floatOf (real.Number x) = x
+floatOf (real.Metres x) = x
+floatOf (real.Degrees x) = x
+floatOf (real.Radians x) = x

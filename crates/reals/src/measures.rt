@@ -2,7 +2,7 @@
 use super::Measure;
 use super::Real;
 ghost use mathlib.Core.Path.{_≡_};
-ghost use Rattle.reals.specs.Measure.{measuredIn, measureNamed, namedOption, unitOf, valueOf};
+ghost use Rattle.reals.specs.Measure.{measuredIn, measureNamed, namedOption, unitOf, floatOf};
 
 // A unit by its name, if there is one.
 pub enum Named {
@@ -50,8 +50,8 @@ pub fn unit_of(r: Real) -> u8
 }
 
 // Its float.
-pub fn value_of(r: Real) -> f64
-    ensures { λ x. ⌜ x ≡ valueOf r ⌝ }
+pub fn float_of(r: Real) -> f64
+    ensures { λ x. ⌜ x ≡ floatOf r ⌝ }
 {
     match r {
         Real::Number(x) => x,

@@ -87,7 +87,10 @@ fn with_digits(m: Measure, negative: bool, exponent: i64, whole: &[u8], fraction
                 return refusal(27);
             }
             match power::resulting(exponent, fraction.len()) {
-                Power::Of(p) => Measured::Value(measures::measured_in(m, scale::scaled_by(negative, c, p))),
+                Power::Of(p) => Measured::Value(measures::measured_in(
+                    m,
+                    scale::scaled_by(negative, c, p),
+                )),
                 Power::Outside => refusal(27),
             }
         }

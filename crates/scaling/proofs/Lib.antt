@@ -4,3 +4,4 @@ pub mod PowerLaws
 pub mod RoundingLaws
 pub mod ScaledLaws
 pub mod TableLaws
+pub mod TieLaws

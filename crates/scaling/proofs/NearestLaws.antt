@@ -1,4 +1,4 @@
--- `round` gives a nearest value of the format, and at a tie one whose last digit is even.
+-- `round` gives a nearest value of the format.
 use mathlib.Core.Path.{_≡_, refl, sym, ap, _∙_, subst}
 use mathlib.Core.Bool.{Bool, true, false, not, _&&_}
 use Prim.Native.Nat.{ℕ, zero, suc, _+_, _-_, _*_, _/_, _%_, _^_, _≤_, _<_, compare, Ordering, Ordering·lt, Ordering·eq, Ordering·gt}
@@ -18,17 +18,17 @@ use lib.Ieee.Order.{drop, kept}
 use lib.Ieee.Positive.{num, den, den-pos, value→cross}
 use lib.Ieee.Scale.{grid, overflow, finite, round-val}
 use Rattle.scan.proofs.Cases.{by-order}
-use Rattle.scaling.specs.Nearest.{distance, error, Nearest}
+use Rattle.scaling.specs.Nearest.{distance, deviation, Nearest}
 
 -- ---- the nearest multiple
 
 -- what `compare` says
-abbrev Cmp : Ordering → ℕ → ℕ → Type 0
+abbrev pub Cmp : Ordering → ℕ → ℕ → Type 0
 Cmp Ordering·lt a b = a < b
 Cmp Ordering·eq a b = a ≡ b
 Cmp Ordering·gt a b = b < a
 
-cmp : (a b : ℕ) → Cmp (compare a b) a b
+pub cmp : (a b : ℕ) → Cmp (compare a b) a b
 cmp a b = go (compare a b) (leb→le a b) (nleb→lt a b) (eqb→eq a b) (λ (e : a ≡ b). subst (λ (x : ℕ). T (eqb a x)) e (eqb-refl a))
   where
     go : (o : Ordering) → (T (isLe o) → a ≤ b) → (T (not (isLe o)) → b < a) → (T (isEq o) → a ≡ b) → (a ≡ b → T (isEq o)) → Cmp o a b
@@ -63,21 +63,9 @@ chosen q r u n z Ordering·gt c e l = subst (λ (w : ℕ). distance w n ≤ dist
 pub closest-near : (n u z : ℕ) → 0 < u → distance (closest n u * u) n ≤ distance (z * u) n
 closest-near n u z U = chosen (n / u) (n % u) u n z (compare (n % u * 2) u) (cmp (n % u * 2) u) (div-add-mod' n u) (mod-lt n U)
 
--- at a tie the number that is kept is even
-pub closest-even : (n u : ℕ) → n % u * 2 ≡ u → closest n u % 2 ≡ 0
-closest-even n u e = go (compare (n % u * 2) u) (cmp (n % u * 2) u)
-  where
-    go : (o : Ordering) → Cmp o (n % u * 2) u → nearest (n / u) o % 2 ≡ 0
-    go Ordering·lt c = absurd (omega arith)
-    go Ordering·eq c = even (n / u)
-      where
-        even : (q : ℕ) → (q + q % 2) % 2 ≡ 0
-        even q = omega arith
-    go Ordering·gt c = absurd (omega arith)
-
 -- ---- in units of the format's smallest value, 2 ^ -low: the fraction is n / b, and a value is q * 2 ^ j for a q below 2 ^ prec
 
--- how error Z units lie from n / b, times b
+-- How far Z units lie from n / b, times b
 abbrev off : ℕ → ℕ → ℕ → ℕ
 off n b Z = distance (Z * b) n
 
@@ -180,8 +168,8 @@ distance-mul x y c = add-mul (x - y) (y - x) c ∙ ap (λ (w : ℕ). w + (y - x)
     less : (a b : ℕ) → (a - b) * c ≡ a * c - b * c
     less a b = mul-comm (a - b) c ∙ mul-sub c a b ∙ simp mul-comm
 
-error-units : (n d L Z a b : ℕ) → n * L ≡ Z * d → distance (n * b) (a * d) * L ≡ off (a * L) b Z * d
-error-units n d L Z a b e =
+deviation-units : (n d L Z a b : ℕ) → n * L ≡ Z * d → distance (n * b) (a * d) * L ≡ off (a * L) b Z * d
+deviation-units n d L Z a b e =
     distance-mul (n * b) (a * d) L
     ∙ ap (λ (w : ℕ). distance w (a * d * L)) (mul-right-comm n b L ∙ ap (λ (w : ℕ). w * b) e ∙ mul-right-comm Z d b)
     ∙ ap (λ (w : ℕ). distance (Z * b * d) w) (mul-right-comm a d L)
@@ -194,22 +182,11 @@ round-near f a b B h y t u =
     let x = round f false a b in
     let U = units-of f y t u in
     let Y = U .q * 2 ^ U .j in
-    let fx : error x a b * L ≡ off (a * L) b (grid f a b) * den x = error-units (num x) (den x) L (grid f a b) a b (value→cross x (grid f a b) L (round-val f a b h)) in
-    let fy : error y a b * L ≡ off (a * L) b Y * den y = error-units (num y) (den y) L Y a b (U .is) in
+    let fx : deviation x a b * L ≡ off (a * L) b (grid f a b) * den x = deviation-units (num x) (den x) L (grid f a b) a b (value→cross x (grid f a b) L (round-val f a b h)) in
+    let fy : deviation y a b * L ≡ off (a * L) b Y * den y = deviation-units (num y) (den y) L Y a b (U .is) in
     let le : off (a * L) b (grid f a b) ≤ off (a * L) b Y = value (prec f) (a * L) b (two-le-pos (prec f) (two f)) B (U .q) (U .j) (U .few) in
     le-of-mul-le-mul-right
-    (le-trans (le-of-eq (mul-right-comm (error x a b) (den y) L ∙ ap (λ (w : ℕ). w * den y) fx ∙ mul-right-comm (off (a * L) b (grid f a b)) (den x) (den y)))
+    (le-trans (le-of-eq (mul-right-comm (deviation x a b) (den y) L ∙ ap (λ (w : ℕ). w * den y) fx ∙ mul-right-comm (off (a * L) b (grid f a b)) (den x) (den y)))
     (le-trans (mul-le-mul-right (den x) (mul-le-mul-right (den y) le))
-    (le-of-eq (sym (mul-right-comm (error y a b) (den x) L ∙ ap (λ (w : ℕ). w * den x) fy)))))
+    (le-of-eq (sym (mul-right-comm (deviation y a b) (den x) L ∙ ap (λ (w : ℕ). w * den x) fy)))))
     (pow-pos (low f))
-
--- ---- ties
-
--- In units the fraction is n / b, and k of its digits are dropped. Where what is dropped is just a half, the number kept is even.
-module _ (f : Format) (s : Bool) (a b : ℕ) where
-  abbrev dropped : ℕ
-  dropped = drop (prec f) (a * 2 ^ low f) b
-
-  pub round-even : a * 2 ^ low f % (b * 2 ^ dropped) * 2 ≡ b * 2 ^ dropped
-      → (q : ℕ) × (round f s a b ≡ units f s q dropped) × (q % 2 ≡ 0)
-  round-even e = (closest (a * 2 ^ low f) (b * 2 ^ dropped), round-is f s a b, closest-even (a * 2 ^ low f) (b * 2 ^ dropped) e)

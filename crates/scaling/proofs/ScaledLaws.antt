@@ -19,9 +19,10 @@ use lib.Ieee.Scale.{round-same, round-val, grid, overflow, finite}
 use lib.Ieee.Back.{round-whole}
 use Rattle.scaling.specs.Limits.{coefficientLimit, powerLimit}
 use Rattle.scaling.specs.Scale.{Holds, numerator, denominator, withSign, scaled}
-use Rattle.scaling.specs.Nearest.{Nearest}
+use Rattle.scaling.specs.Nearest.{Nearest, Halfway, IsEven}
 use Rattle.scaling.proofs.NearestLaws.{round-near}
 use Rattle.scaling.proofs.RoundingLaws.{neg-round, ten-pos}
+use Rattle.scaling.proofs.TieLaws.{tie-even}
 
 -- ---- the sign put on last is the sign that is rounded with
 
@@ -133,3 +134,23 @@ scaled-near s c p h g y t u =
     let x = round binary64 false (c * numerator p) (denominator p) in
     let b = under binary64 127 (c * numerator p) (denominator p) (down-some p) (bounded c p h g) (lit< tt) in
     rw (num-sign s x, den-sign s x) (round-near binary64 (c * numerator p) (denominator p) (down-some p) b y t u)
+
+-- ---- a tie goes to the even one
+
+value-sign : (s : Bool) (x : Float) (a d : ℕ) → HasValue x false a d → HasValue (withSign s x) s a d
+unfolding neg
+value-sign false x a d h = h
+value-sign true nan a d h = absurd h
+value-sign true (inf t) a d h = absurd h
+value-sign true (fin t m e) a d h = (rw (h .0), h .1)
+
+pub scaled-even : (s : Bool) (c : ℕ) (p : ℤ) → c ≤ coefficientLimit → natAbs p ≤ powerLimit → {q j : ℕ}
+    → Halfway binary64 (c * numerator p) (denominator p) q j → IsEven binary64 (scaled s c p) s q j
+unfolding scaled
+scaled-even s c p h g {q} {j} half =
+    let a = c * numerator p in
+    let b = denominator p in
+    let fits = under binary64 127 a b (down-some p) (bounded c p h g) (lit< tt) in
+    value-sign s (round binary64 false a b) ((q + q % 2) * 2 ^ suc j) (2 ^ low binary64)
+    (subst (λ (n : ℕ). HasValue (round binary64 false a b) false n (2 ^ low binary64)) (tie-even binary64 a b q j (down-some p) half)
+    (round-val binary64 a b fits))

@@ -27,8 +27,9 @@ use Rattle.edf.proofs.CallLaws.{measured-by, measured-as}
 -- ---- The form has one reading, and a text stands for one real number at most
 pub use Rattle.reals.proofs.OneReading.{one-reading}
 pub use Rattle.reals.proofs.Main.{one-numeral, one-real}
--- ---- Its float is finite, none is nearer to what is written, it is exact where that is a whole number, and zero keeps its sign
-pub use Rattle.reals.proofs.ValueLaws.{value-finite, value-nearest, value-exact, value-zero}
+-- ---- Its float is finite, none is nearer to what is written, of two that are just as near it is the even one, it is exact where what is
+-- written is a whole number, and zero keeps its sign
+pub use Rattle.reals.proofs.ValueLaws.{value-finite, value-nearest, value-even, value-exact, value-zero}
 
 module _ {s : List ℕ} {rows : List Row} (small : length s ≤ fileLimit) (partition : Partition s rows) (block : ℕ) where
   -- ---- A block of the file, with its row
