@@ -24,7 +24,7 @@ extern "C" {
 
 /* The codes of errors. Positions: for 1, 2 and 15 it is 0; for 3 and 5 to 14 the offset of the block's start in the file; for 4 the
  * offset of the byte; for 17 and 18 the number of the field, 1 to 7 (edf_field_name), or 0 where a keyword is read as a whole
- * number; for all others 0. edf_words gives the words. */
+ * number or as a real number; for all others 0. edf_words gives the words. No error has the code 26. */
 enum {
     EDF_OK = 0,
     EDF_FILE_TOO_LARGE = 1,        /* file over 1,073,741,824 bytes */
@@ -51,7 +51,8 @@ enum {
     EDF_BUFFER_TOO_SMALL = 22,     /* buffer too small */
     EDF_INDEX_OUTSIDE = 23,        /* index outside the array */
     EDF_BAD_ARGUMENT = 24,         /* bad argument */
-    EDF_TEXT_TOO_LONG = 25         /* text over 1,023 characters */
+    EDF_TEXT_TOO_LONG = 25,        /* text over 1,023 characters */
+    EDF_OUT_OF_BOUNDS = 27         /* real number with digits over 9,007,199,254,740,992 or a power of ten outside -22 to 22 */
 };
 
 /* Data types, as edf_describe gives them and edf_write takes them. */
@@ -78,6 +79,9 @@ enum { EDF_UNSIGNED = 1, EDF_SIGNED = 2, EDF_FLOAT32 = 3, EDF_FLOAT64 = 4 };
 /* Where a field of a description came from: the block's own header; the general header; or the default, because no header in reach
  * has the keyword. A written value has its header's origin, also where it equals the default. */
 enum { EDF_ORIGIN_OWN = 1, EDF_ORIGIN_GENERAL = 2, EDF_ORIGIN_DEFAULT = 3 };
+
+/* The unit that a real number is written with: none, `_m`, `_deg` or `_rad`. */
+enum { EDF_UNIT_NONE = 0, EDF_UNIT_METRES = 1, EDF_UNIT_DEGREES = 2, EDF_UNIT_RADIANS = 3 };
 
 /* The most blocks of a file and bytes of a file; buffers that always suffice for edf_text and edf_unescape, for edf_escape, and for
  * edf_list. */
@@ -123,6 +127,20 @@ uint8_t edf_text(const uint8_t *file, size_t file_length, size_t block, const ui
 /* The value of a keyword as a whole number. Errors: those of opening, 16, 18 at position 0. */
 uint8_t edf_whole_number(const uint8_t *file, size_t file_length, size_t block, const uint8_t *key, size_t key_length,
                          int64_t *value, size_t *position);
+
+/* The value of a keyword as a real number: *unit is EDF_UNIT_NONE, EDF_UNIT_METRES, EDF_UNIT_DEGREES or EDF_UNIT_RADIANS.
+ * Form: an optional sign; digits with at most one point before, among or after them, at least one digit; optionally `e` and a whole
+ * number of 64 bits; optionally `_m`, `_deg` or `_rad`. As `9.90376e-11`, `-.5_rad`, `32.5_deg`. Letters are small, and no whitespace
+ * stands inside.
+ * Bounds: the digits without the point, read as a whole number, are at most 9,007,199,254,740,992. The power of ten is from -22 to 22:
+ * the number after `e`, 0 where there is none, less the number of digits after the point. Nothing is reduced first: `1e23` and `0e23`
+ * are outside, `10e22` and `0.1e23` inside.
+ * *value is the 64-bit float nearest to the written number, rounded once, ties to even. The sign is put on last, so that `-0` is minus
+ * zero. Degrees are not converted: for `32.5_deg` it is 32.5. The locale plays no part.
+ * The proofs are about the processor's default mode. A host that changes it (fesetround, flush to zero) is outside the proofs.
+ * Errors: those of opening, 16; 18 at position 0 for another form; then 27 outside the bounds. */
+uint8_t edf_real(const uint8_t *file, size_t file_length, size_t block, const uint8_t *key, size_t key_length, uint8_t *unit,
+                 double *value, size_t *position);
 
 /* Text in value form, in quotes and with escapes, at the front of `out`; *length is its bytes. Errors: 24 (byte 0 or a byte above
  * 127), 25, 22. */
@@ -219,7 +237,8 @@ uint8_t edf_image_open(const char *path, size_t block, uint8_t order, edf_image 
 uint8_t edf_image_read(const edf_image *image, uint8_t *out, size_t out_length, size_t *position);
 void edf_image_close(edf_image *image);
 
-/* The words for the code of an error, which like those below live as long as the program; "no error" for 0, "unknown code" above 25. */
+/* The words for the code of an error, which like those below live as long as the program; "no error" for 0, "unknown code" for 26 and
+ * above 27. */
 const char *edf_words(uint8_t code);
 
 /* The field that position 1 to 7 of errors 17 and 18 names: "DataType", "ByteOrder", "Compression", "Dim_1 to Dim_3",
@@ -235,6 +254,9 @@ const char *edf_byteorder_name(uint8_t byteorder);
 
 /* The words of an origin, "own header", "general header" or "default"; "" for a number that is none. */
 const char *edf_origin_name(uint64_t origin);
+
+/* The unit of a real number as it is written, "m", "deg" or "rad"; "" for EDF_UNIT_NONE and for a number that is no unit. */
+const char *edf_unit_name(uint8_t unit);
 
 #ifdef __cplusplus
 }

@@ -96,6 +96,78 @@ static size_t put_header(uint8_t *bytes, size_t at, const char *statements) {
     return at + 512;
 }
 
+/* Numbers in each form and unit, both sides of each bound, and what is no real number; the answer is a code, and for EDF_OK a unit and
+ * a value. */
+static const struct {
+    const char *written;
+    uint8_t code, unit;
+    double value;
+} numbers[] = {
+    {"32.5_deg", EDF_OK, EDF_UNIT_DEGREES, 32.5},
+    {"9.82514_m", EDF_OK, EDF_UNIT_METRES, 9.82514},
+    {"-1.5_rad", EDF_OK, EDF_UNIT_RADIANS, -1.5},
+    {"9.90376e-11", EDF_OK, EDF_UNIT_NONE, 9.90376e-11},
+    {"-0", EDF_OK, EDF_UNIT_NONE, -0.0},
+    {"-.0_deg", EDF_OK, EDF_UNIT_DEGREES, -0.0},
+    {"0", EDF_OK, EDF_UNIT_NONE, 0.0},
+    {".5", EDF_OK, EDF_UNIT_NONE, 0.5},
+    {"+5.e1_m", EDF_OK, EDF_UNIT_METRES, 50.0},
+    {"0.1", EDF_OK, EDF_UNIT_NONE, 0.1},
+    {"9007199254740992", EDF_OK, EDF_UNIT_NONE, 9007199254740992.0},
+    {"9007199254740993", EDF_OUT_OF_BOUNDS, 0, 0},
+    {"1e22", EDF_OK, EDF_UNIT_NONE, 1e22},
+    {"10e22", EDF_OK, EDF_UNIT_NONE, 1e23},
+    {"1e23", EDF_OUT_OF_BOUNDS, 0, 0},
+    {"1e-22_m", EDF_OK, EDF_UNIT_METRES, 1e-22},
+    {"1.5e-22_m", EDF_OUT_OF_BOUNDS, 0, 0},
+    {"0e23", EDF_OUT_OF_BOUNDS, 0, 0},
+    {"1e9223372036854775807", EDF_OUT_OF_BOUNDS, 0, 0},
+    {"1e9223372036854775808", EDF_BAD_NUMBER, 0, 0},
+    {"", EDF_BAD_NUMBER, 0, 0},
+    {".", EDF_BAD_NUMBER, 0, 0},
+    {"1E5", EDF_BAD_NUMBER, 0, 0},
+    {"1e+", EDF_BAD_NUMBER, 0, 0},
+    {"1_mm", EDF_BAD_NUMBER, 0, 0},
+    {"1 _m", EDF_BAD_NUMBER, 0, 0},
+    {"nan", EDF_BAD_NUMBER, 0, 0},
+};
+
+static void reals(void) {
+    static uint8_t bytes[1024];
+    for (size_t i = 0; i < sizeof numbers / sizeof *numbers; i++) {
+        char statement[64];
+        int is_real = numbers[i].code == EDF_OK;
+        uint8_t unit = 99;
+        double value = 99, expected = is_real ? numbers[i].value : 99;
+        size_t position = 77;
+        sprintf(statement, "w = %s ;", numbers[i].written);
+        size_t length = put_header(bytes, 0, statement);
+        uint8_t code = edf_real(bytes, length, 0, BYTES("W"), &unit, &value, &position);
+        check(code == numbers[i].code && unit == (is_real ? numbers[i].unit : 99), numbers[i].written);
+        check(memcmp(&value, &expected, sizeof value) == 0 && position == (is_real ? 77 : 0), numbers[i].written);
+    }
+}
+
+/* Errors before the value is looked at, and a value of the general header. */
+static void reals_of_files(void) {
+    static uint8_t bytes[1024];
+    uint8_t unit = 99;
+    double value = 99;
+    size_t position = 77, length = put_header(bytes, 0, "w = 1_m ;");
+    CHECK(edf_real(bytes, length, 0, BYTES("v"), &unit, &value, &position) == EDF_NOT_FOUND && position == 0);
+    position = 77;
+    CHECK(edf_real(bytes, length, 1, BYTES("w"), &unit, &value, &position) == EDF_NOT_FOUND && position == 0);
+    bytes[7] = 0;
+    CHECK(edf_real(bytes, length, 0, BYTES("w"), &unit, &value, &position) == EDF_BAD_HEADER_BYTE && position == 7);
+    CHECK(edf_real(bytes, 0, 0, BYTES("w"), &unit, &value, &position) == EDF_NO_HEADER && position == 0);
+    CHECK(unit == 99 && value == 99);
+    length = put_header(bytes, 0, "EDF_DataFormatVersion=2.42;EDF_DataBlocks=1;WaveLength=1.5e-10_m;");
+    length = put_header(bytes, length, "EDF_DataBlockID=1.Image.Psd;EDF_BinarySize=0;");
+    position = 77;
+    CHECK(edf_real(bytes, length, 1, BYTES("wave length"), &unit, &value, &position) == EDF_OK && position == 77);
+    CHECK(unit == EDF_UNIT_METRES && value == 1.5e-10);
+}
+
 /* Each field in turn in a block's own header, in the general header, in both and in none. */
 static void origins_of_each_field(void) {
     static const char *const statements[] = {"DataType=SignedByte;",       "ByteOrder=LowByteFirst;", "Compression=None;",  "Dim_1=4;",
@@ -249,7 +321,7 @@ static void keyword_list(void) {
 }
 
 static void words(void) {
-    for (int code = EDF_OK; code <= EDF_TEXT_TOO_LONG; code++)
+    for (int code = EDF_OK; code <= EDF_OUT_OF_BOUNDS; code++)
         for (int other = 0; other < code; other++)
             CHECK(strlen(edf_words((uint8_t)code)) > 5 && strcmp(edf_words((uint8_t)code), edf_words((uint8_t)other)) != 0);
     CHECK(strcmp(edf_words(EDF_OK), "no error") == 0);
@@ -257,7 +329,9 @@ static void words(void) {
     CHECK(strcmp(edf_words(EDF_DATA_PAST_END), "data past the end of the file") == 0);
     CHECK(strcmp(edf_words(EDF_BUFFER_TOO_SMALL), "buffer too small") == 0);
     CHECK(strcmp(edf_words(EDF_TEXT_TOO_LONG), "text over 1,023 characters") == 0);
-    CHECK(strcmp(edf_words(26), "unknown code") == 0 && strcmp(edf_words(255), "unknown code") == 0);
+    CHECK(strncmp(edf_words(EDF_OUT_OF_BOUNDS), "number outside the bounds: ", 27) == 0);
+    CHECK(strcmp(edf_words(26), "unknown code") == 0);
+    CHECK(strcmp(edf_words(28), "unknown code") == 0 && strcmp(edf_words(255), "unknown code") == 0);
     CHECK(strcmp(edf_field_name(1), "DataType") == 0 && strcmp(edf_field_name(7), "DataValueOffset") == 0);
     CHECK(strcmp(edf_field_name(0), "") == 0 && strcmp(edf_field_name(8), "") == 0);
     CHECK(strcmp(edf_datatype_name(EDF_UNSIGNED_SHORT), "UnsignedShort") == 0 && edf_datatype_width(EDF_UNSIGNED_SHORT) == 2);
@@ -267,12 +341,15 @@ static void words(void) {
     CHECK(strcmp(edf_origin_name(EDF_ORIGIN_OWN), "own header") == 0 && strcmp(edf_origin_name(EDF_ORIGIN_DEFAULT), "default") == 0);
     CHECK(strcmp(edf_origin_name(EDF_ORIGIN_GENERAL), "general header") == 0);
     CHECK(!*edf_origin_name(0) && !*edf_origin_name(4) && !*edf_origin_name(256 + EDF_ORIGIN_OWN));
+    CHECK(strcmp(edf_unit_name(EDF_UNIT_METRES), "m") == 0 && strcmp(edf_unit_name(EDF_UNIT_DEGREES), "deg") == 0);
+    CHECK(strcmp(edf_unit_name(EDF_UNIT_RADIANS), "rad") == 0);
+    CHECK(!*edf_unit_name(EDF_UNIT_NONE) && !*edf_unit_name(4) && !*edf_unit_name(255));
 }
 
 int main(int count, char **arguments) {
     if (count != 2) return fputs("usage: calls PATH (of a file that it may write)\n", stderr), 2;
-    writing(), opening(), keywords(), descriptions(), origins_of_each_field(), arrays(), stored_arrays(), listing();
-    keyword_list(), words();
+    writing(), opening(), keywords(), reals(), reals_of_files(), descriptions(), origins_of_each_field(), arrays(), stored_arrays();
+    listing(), keyword_list(), words();
     images(arguments[1]), images_that_are_none(arguments[1]), large_image(arguments[1]);
     printf("%d passed, %d failed\n", passed, wrong);
     return wrong != 0;

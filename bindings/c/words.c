@@ -30,6 +30,8 @@ static const char *const words[] = {
     "index outside the array",
     "bad argument",
     "text over 1,023 characters",
+    "unknown code", /* no error has the code 26 */
+    "number outside the bounds: digits over 9,007,199,254,740,992 or a power of ten outside -22 to 22",
 };
 
 static const char *const fields[] = {
@@ -57,6 +59,8 @@ static const char *const byteorders[] = {"", "HighByteFirst", "LowByteFirst"};
 
 static const char *const origins[] = {"", "own header", "general header", "default"};
 
+static const char *const units[] = {"", "m", "deg", "rad"};
+
 const char *edf_words(uint8_t code) {
     return code < COUNT(words) ? words[code] : "unknown code";
 }
@@ -79,4 +83,8 @@ const char *edf_byteorder_name(uint8_t byteorder) {
 
 const char *edf_origin_name(uint64_t origin) {
     return origin < COUNT(origins) ? origins[origin] : "";
+}
+
+const char *edf_unit_name(uint8_t unit) {
+    return unit < COUNT(units) ? units[unit] : "";
 }

@@ -8,6 +8,7 @@
         for block in file.blocks:
             print(block.number, block.identity)
         print(file.header(0)["Title"])      # header(n): a mapping from keys to text
+        print(file.real(0, "WaveLength"))   # a number with its unit: Real(value=1.5e-10, unit='m')
         image = file.array(0)               # as edf.read
         file.array(0, out=image)            # with numpy: the same into an array that is there, no new memory
         print(file.pixel(0, 2, 1))          # index 1 is 2, index 2 is 1
@@ -27,6 +28,7 @@ import ctypes
 import enum
 import errno
 import io
+import math
 import mmap
 import operator
 import os
@@ -79,6 +81,7 @@ def _load():
         "edf_find": keyword + [number_out] * 3,
         "edf_text": keyword + buffer_out,
         "edf_whole_number": keyword + [POINTER(c_int64), number_out],
+        "edf_real": keyword + [POINTER(c_uint8), POINTER(c_double), number_out],
         "edf_keywords": bytes_in + buffer_out,
         "edf_escape": bytes_in + buffer_out,
         "edf_unescape": bytes_in + buffer_out,
@@ -94,7 +97,7 @@ def _load():
         function = getattr(library, name)
         function.argtypes, function.restype = arguments, c_uint8
     for name, argument in (("edf_words", c_uint8), ("edf_field_name", c_size_t), ("edf_datatype_name", c_uint8),
-                           ("edf_byteorder_name", c_uint8)):
+                           ("edf_byteorder_name", c_uint8), ("edf_unit_name", c_uint8)):
         function = getattr(library, name)
         function.argtypes, function.restype = [argument], c_char_p
     library.edf_part.argtypes, library.edf_part.restype = bytes_in + [c_size_t, c_size_t], c_size_t
@@ -135,11 +138,12 @@ class Code(enum.IntEnum):
     INDEX_OUTSIDE = 23
     BAD_ARGUMENT = 24
     TEXT_TOO_LONG = 25
+    OUT_OF_BOUNDS = 27
 
 
 class EdfError(ValueError):
     """An error of the library. `position` is an offset in the file for codes 3 to 14, the number of the field for 17 and 18 (0 for
-    a keyword read as a whole number), else 0. `field` is the name of that field, or None."""
+    a keyword read as a whole number or as a real number), else 0. `field` is the name of that field, or None."""
 
     def __init__(self, code, position):
         self.code = Code(code)
@@ -161,6 +165,7 @@ _KINDS = " uiuiuifuif"  # numpy's letter for each data type
 _NUMPY_TYPES = ["=%s%d" % pair for pair in zip(_KINDS, _WIDTHS)]  # numpy's name for each, in this machine's byte order
 _INSTANCES = ["", "Psd", "Error"]
 _ORIGINS = ["", "own", "general", "default"]
+_UNITS = [_library.edf_unit_name(n).decode("ascii") or None for n in range(4)]
 _NATIVE_ORDER = 1 if sys.byteorder == "big" else 2
 _NATIVE = _BYTE_ORDERS[_NATIVE_ORDER]
 
@@ -220,6 +225,34 @@ class Description(NamedTuple):
     orientation: int
     offset: int
     origins: Origins
+
+
+class Real(NamedTuple):
+    """A real number of a header. `unit` is "m" for metres, "deg" for degrees, "rad" for radians, or None for a bare number. `value` is
+    the number in that unit, nothing converted; float() gives it too."""
+
+    value: float
+    unit: Optional[str]
+
+    def __float__(self):
+        return self.value
+
+    @property
+    def radians(self):
+        """The angle in radians. One in degrees is converted by Python's math.radians: that is not proved, and is rounded again.
+        ValueError for metres and for a bare number."""
+        return math.radians(self.value) if self._angle_unit() == "deg" else self.value
+
+    @property
+    def degrees(self):
+        """The angle in degrees. One in radians is converted by Python's math.degrees: that is not proved, and is rounded again.
+        ValueError for metres and for a bare number."""
+        return math.degrees(self.value) if self._angle_unit() == "rad" else self.value
+
+    def _angle_unit(self):
+        if self.unit not in ("deg", "rad"):
+            raise ValueError("%r is no angle: its unit is neither deg nor rad" % (self,))
+        return self.unit
 
 
 # ---- What calls get
@@ -523,6 +556,13 @@ class File:
         key, value = _encoded(key), c_int64()
         _answered(self._place(block), _library.edf_whole_number, key, len(key), byref(value))
         return value.value
+
+    def real(self, block, key):
+        """The value of a keyword as a real number with its unit, a Real. Errors of the value: 18 where it has not the form of a number,
+        27 where its digits are over 9,007,199,254,740,992 or its power of ten is outside -22 to 22."""
+        key, unit, value = _encoded(key), c_uint8(), c_double()
+        _answered(self._place(block), _library.edf_real, key, len(key), byref(unit), byref(value))
+        return Real(value.value, _UNITS[unit.value])
 
     def describe(self, block):
         """The description of a block's array."""

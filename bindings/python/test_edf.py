@@ -3,6 +3,7 @@
 import errno
 import gc
 import glob
+import math
 import os
 import pathlib
 import pickle
@@ -176,11 +177,14 @@ class Blocks(unittest.TestCase):
         self.assertEqual((caught.exception.code, caught.exception.field), (17, "ByteOrder"))
         for code in edf.Code:
             self.assertGreater(len(edf.EdfError(code, 0).words), 5)
+            self.assertNotEqual(edf.EdfError(code, 0).words, "unknown code")
+        self.assertEqual(sorted(edf.Code), list(range(1, 26)) + [27])
 
     def test_numbers_out_of_range(self):
         file = edf.open(fixture("raster_7.edf"))
         for block in (-1, 1, 1 << 64, -1 << 64):
-            for call in (file.header, file.describe, file.array, lambda b: file.text(b, "Title"), lambda b: file.pixel(b, 0)):
+            for call in (file.header, file.describe, file.array, lambda b: file.text(b, "Title"), lambda b: file.pixel(b, 0),
+                         lambda b: file.real(b, "Dim_1")):
                 with self.assertRaises(edf.EdfError) as caught:
                     call(block)
                 self.assertEqual(caught.exception.code, edf.Code.NOT_FOUND)
@@ -196,7 +200,8 @@ class Blocks(unittest.TestCase):
         for name, file in opened():
             for block in range(len(file)):
                 for call in (lambda f: f.describe(block), lambda f: f.find(block, "Dim_1"), lambda f: f.text(block, "datatype"),
-                             lambda f: f.pixel(block, 1), lambda f: bytes(f.array(block)), lambda f: f.whole_number(block, "SIZE")):
+                             lambda f: f.pixel(block, 1), lambda f: bytes(f.array(block)), lambda f: f.whole_number(block, "SIZE"),
+                             lambda f: f.real(block, "dim_1")):
                     with unittest.mock.patch.object(edf, "_is_alone", lambda *_: False):
                         whole = answer(call, file)
                     self.assertEqual(answer(call, file), whole, (name, block))
@@ -378,6 +383,78 @@ class Origins(unittest.TestCase):
         d = edf.File(edf.write(b"\1\2", "", "UnsignedByte", [2])).describe(0)
         self.assertEqual(d.origins, edf.Origins(*["own"] * 7)._replace(compression="default", orientation="default", offset="default"))
         self.assertIn("origins=Origins(data_type='own', byte_order='own', compression='default', dims='own', ", repr(d))
+
+
+class Reals(unittest.TestCase):
+    """Keywords as real numbers."""
+
+    @staticmethod
+    def real(written):
+        return edf.File(("{ w = %s ;" % written).ljust(510).encode("ascii") + b"}\n").real(0, "W")
+
+    def test_forms_and_units(self):
+        for written, value, unit in (("32.5_deg", 32.5, "deg"), ("9.82514_m", 9.82514, "m"), ("-1.5_rad", -1.5, "rad"),
+                                     ("9.90376e-11", 9.90376e-11, None), ("0.000343", 0.000343, None), (".5", 0.5, None),
+                                     ("5.e1_m", 50.0, "m"), ("+1e+5", 1e5, None), ("10e22", 1e23, None), ("0.1e23", 1e22, None),
+                                     ("9007199254740992e-22", 9007199254740992e-22, None)):
+            self.assertEqual(self.real(written), edf.Real(value, unit), written)
+            self.assertEqual(float(self.real(written)), value, written)
+        for written, sign in (("-0", -1.0), ("-.0_deg", -1.0), ("0", 1.0), ("+0e5_m", 1.0)):
+            real = self.real(written)
+            self.assertEqual((real.value, math.copysign(1.0, real.value)), (0.0, sign), written)
+
+    def test_values_are_those_of_python(self):
+        for digits in (0, 1, 3, 7, 123456789, 4503599627370497, 8999999999999999, 9007199254740991, 9007199254740992):
+            for power in range(-22, 23):
+                written = "-%de%d" % (digits, power)
+                self.assertEqual(self.real(written + "_m").value.hex(), float(written).hex(), written)
+
+    def test_a_number_and_its_unit(self):
+        with edf.open(fixture("fabio_hdr_saxs.edf")) as file:
+            distance, wavelength = file.real(0, "SampleDistance"), file.real(0, b"wave length")
+            self.assertEqual((distance.value, distance.unit, float(distance)), (9.82514, "m", 9.82514))
+            self.assertEqual(repr(distance), "Real(value=9.82514, unit='m')")
+            self.assertEqual(repr(wavelength), "Real(value=9.90376e-11, unit=None)")
+            value, unit = wavelength
+            self.assertEqual((value, unit), (9.90376e-11, None))
+            self.assertEqual(pickle.loads(pickle.dumps(distance)), distance)
+        with self.assertRaises(ValueError):
+            file.real(0, "WaveLength")
+
+    def test_refusals(self):
+        def error(call):
+            with self.assertRaises(edf.EdfError) as caught:
+                call()
+            return caught.exception.code, caught.exception.position
+
+        for written in ("", ".", ".e1", "1e", "1E5", "1_M", "1_mm", "1_", "1m", "1 _m", "inf", "nan", "1e9223372036854775808"):
+            self.assertEqual(error(lambda: self.real(written)), (edf.Code.BAD_NUMBER, 0), written)
+        for written in ("1e23", "0e23", "1.5e-22", "9007199254740993", "1e9223372036854775807"):
+            self.assertEqual(error(lambda: self.real(written)), (edf.Code.OUT_OF_BOUNDS, 0), written)
+        self.assertEqual(error(lambda: edf.open(fixture("raster_7.edf")).real(0, "WaveLength")), (edf.Code.NOT_FOUND, 0))
+
+    def test_angles(self):
+        for real in (edf.Real(180.0, "deg"), edf.Real(math.pi, "rad")):
+            self.assertEqual((real.radians, real.degrees), (math.pi, 180.0))
+        self.assertEqual((self.real("32.5_deg").degrees, self.real("32.5_rad").radians), (32.5, 32.5))
+        self.assertEqual(self.real("32.5_deg").radians, math.radians(32.5))
+        self.assertEqual(self.real("32.5_rad").degrees, math.degrees(32.5))
+
+    def test_no_angles(self):
+        for real in (self.real("1_m"), self.real("1")):
+            for name in ("radians", "degrees"):
+                with self.assertRaises(ValueError) as caught:
+                    getattr(real, name)
+                self.assertEqual(str(caught.exception), "%r is no angle: its unit is neither deg nor rad" % (real,))
+
+    def test_general_header(self):
+        def block(statements):
+            return ("{ " + statements).ljust(510).encode("ascii") + b"}\n"
+
+        file = edf.File(block("EDF_DataFormatVersion = 2.42 ; EDF_DataBlocks = 2 ; WaveLength = 1.5e-10_m ;")
+                        + block("EDF_DataBlockID = 1.Image.Psd ; EDF_BinarySize = 0 ; WaveLength = 2_m ;")
+                        + block("EDF_DataBlockID = 2.Image.Psd ; EDF_BinarySize = 0 ;"))
+        self.assertEqual([file.real(number, "wavelength").value for number in range(3)], [1.5e-10, 2.0, 1.5e-10])
 
 
 class Arrays(unittest.TestCase):

@@ -3,7 +3,7 @@
 use crate::failure::{Failure, Status};
 use crate::input;
 use crate::output::{visible, Output};
-use edf::{Block, BlockKind, File};
+use edf::{Block, BlockKind, Error, File, Real};
 use std::borrow::Cow;
 use std::ffi::OsStr;
 use std::os::unix::ffi::OsStrExt;
@@ -45,8 +45,27 @@ fn keywords(block: &Block, output: &mut Output) -> Result<(), Failure> {
 
 /// The value of a keyword as text, exactly.
 pub fn get(path: &OsStr, block: usize, key: &OsStr, output: &mut Output) -> Result<Status, Failure> {
+    let text = asked(path, block, |block| block.text(key.as_bytes()))?;
+    output.line(&text).map(|()| Status::Well)
+}
+
+/// The value of a keyword as a real number.
+pub fn get_real(path: &OsStr, block: usize, key: &OsStr, output: &mut Output) -> Result<Status, Failure> {
+    let real = asked(path, block, |block| block.real(key.as_bytes()))?;
+    output.line(&words(real)).map(|()| Status::Well)
+}
+
+/// What a call on a block of a file answers.
+fn asked<T>(path: &OsStr, block: usize, call: impl FnOnce(Block) -> Result<T, Error>) -> Result<T, Failure> {
     let bytes = input::read(path)?;
-    let text = File::open(&bytes).and_then(|file| file.block(block)?.text(key.as_bytes()));
-    output.line(&text.map_err(|error| Failure::refused(path, error))?)?;
-    Ok(Status::Well)
+    File::open(&bytes).and_then(|file| call(file.block(block)?)).map_err(|error| Failure::refused(path, error))
+}
+
+/// A real number in one word or two: the shortest decimal that is read as the same float, then its unit.
+fn words(real: Real) -> String {
+    let number = Real::Number(real.value());
+    match real.unit() {
+        None => number.to_string(),
+        Some(unit) => format!("{number} {unit}"),
+    }
 }

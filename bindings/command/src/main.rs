@@ -26,6 +26,10 @@ edf: list, look into, check and export files of the ESRF Data Format
                                 header, d nowhere: the default
     edf header FILE [BLOCK]     the keywords of a block, or of every block
     edf get FILE BLOCK KEY      the value of a keyword as text
+    edf get --real FILE BLOCK KEY
+                                the value of a keyword as a real number: the shortest decimal that is read as the same
+                                64-bit float, with an exponent below 0.00001 and from 1e16 on; after it a space and the
+                                unit, m, deg or rad, if it is written with one. As in 9.90376e-11 or 32.5 deg
     edf export FILE BLOCK OUT   the array of a block, by the ending of OUT: .raw (its bytes, low byte first), .npy (numpy)
                                 or .pgm (a grey image; UnsignedByte and UnsignedShort)
     edf check FILE...           whether every block can be read; if not, what is wrong and the bytes there. A note says what
@@ -57,6 +61,7 @@ fn run(output: &mut Output) -> Result<Status, Failure> {
         Command::List { files } => list::list(&files, output),
         Command::Header { file, block } => header::header(&file, block, output),
         Command::Get { file, block, key } => header::get(&file, block, &key, output),
+        Command::GetReal { file, block, key } => header::get_real(&file, block, &key, output),
         Command::Export { file, block, out } => export::export(&file, block, &out, output),
         Command::Check { files } => check::check(&files, output),
     }

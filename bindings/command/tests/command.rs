@@ -136,6 +136,79 @@ fn header_and_get() {
     assert_eq!(edf(&[OsString::from("get"), path.into(), "0".into(), key]).status, 1);
 }
 
+/// What `get --real` prints for a value: its line, without the end.
+fn real(file: &Path, value: &str) -> Result<String, String> {
+    fs::write(file, block(&format!("Size = 16 ; w = {value} ;"))).unwrap();
+    let answer = edf(words!["get", "--real", file, "0", "W"]);
+    match answer.status {
+        0 => Ok(answer.out.strip_suffix('\n').expect("a line").to_string()),
+        status => {
+            assert_eq!((status, answer.out.as_str()), (1, ""), "{value}");
+            Err(answer.err.strip_prefix(&format!("edf: {}: ", file.display())).expect("the file's name").trim_end().to_string())
+        }
+    }
+}
+
+#[test]
+fn get_real_prints_the_number_and_its_unit() {
+    let file = folder("real").join("real.edf");
+    for (written, printed) in [
+        ("32.5_deg", "32.5 deg"),
+        ("+1.50e-10_m", "1.5e-10 m"),
+        ("-.5_rad", "-0.5 rad"),
+        ("9.90376e-11", "9.90376e-11"),
+        ("-0", "-0"),
+        ("-.0_deg", "-0 deg"),
+        ("007.", "7"),
+        ("0.1e-4", "0.00001"),
+        ("9e-6", "9e-6"),
+        ("9007199254740992", "9007199254740992"),
+        ("1e16_m", "1e16 m"),
+        ("10e22", "1e23"),
+        ("9007199254740992e-22", "9.007199254740992e-7"),
+    ] {
+        assert_eq!(real(&file, written), Ok(printed.to_string()), "{written}");
+    }
+    let saxs = fixture("fabio_hdr_saxs.edf");
+    assert_eq!(edf(words!["get", "--real", &saxs, "0", "Sample Distance"]).out, "9.82514 m\n");
+    assert_eq!(edf(words!["get", &saxs, "0", "Sample Distance"]).out, "9.82514_m\n");
+}
+
+#[test]
+fn get_real_refuses_as_get_does() {
+    let file = folder("no_real").join("real.edf");
+    let bounds = "number outside the bounds: digits over 9,007,199,254,740,992 or a power of ten outside -22 to 22";
+    for (written, error) in [
+        ("1e23", format!("error 27 at 0: {bounds}")),
+        ("9007199254740993", format!("error 27 at 0: {bounds}")),
+        ("1_mm", "error 18 at 0: bad number or range".to_string()),
+        ("", "error 18 at 0: bad number or range".to_string()),
+    ] {
+        assert_eq!(real(&file, written), Err(error), "{written}");
+    }
+    for (key, code) in [("w", 16), ("Title", 18)] {
+        let answer = edf(words!["get", "--real", fixture("fabio_hdr_saxs.edf"), "0", key]);
+        assert_eq!((answer.status, answer.err.contains(&format!(": error {code} at 0: "))), (1, true), "{}", answer.err);
+    }
+    assert!(edf(words!["get", "--real", fixture("nul_in_header.edf"), "0", "w"]).err.contains(": error 4 at 152: "));
+    assert_eq!(edf(words!["get", "--real", fixture("no_such_file.edf"), "0", "w"]).status, 3);
+}
+
+/// What is printed is read as the same float as what is written, bit for bit, over all powers of ten.
+#[test]
+fn get_real_reads_back() {
+    let file = folder("reads_back").join("real.edf");
+    for power in -22..=22 {
+        for digits in ["1", "-3", "123456789", "4503599627370497", "-8999999999999999", "9007199254740991"] {
+            let written = format!("{digits}e{power}");
+            let printed = real(&file, &format!("{written}_deg")).unwrap();
+            let number = printed.strip_suffix(" deg").expect(&printed);
+            let bits = |text: &str| text.parse::<f64>().map(f64::to_bits);
+            assert_eq!(bits(number), bits(&written), "{written} {printed}");
+        }
+    }
+}
+
 #[test]
 fn values_over_the_limit_of_text_are_shown_as_they_stand() {
     let body = format!("{{\nLong = {} ;\n", "x".repeat(1500));
@@ -423,7 +496,7 @@ fn file_names_of_any_bytes() {
 
 #[test]
 fn bad_arguments() {
-    for line in ["", "lists", "list", "get a 0", "get a b c", "header a 0 0", "export a 0", "--lost", "list --all a"] {
+    for line in ["", "lists", "list", "get a 0", "get a b c", "header a 0 0", "export a 0", "--lost", "list --all a", "list --real a"] {
         let words: Vec<&str> = line.split_whitespace().collect();
         let answer = edf(&words);
         assert_eq!((answer.status, answer.out.as_str()), (2, ""), "{line}");
@@ -438,7 +511,7 @@ fn help_and_version() {
     let text = help.out.split_whitespace().collect::<Vec<_>>().join(" ");
     let letters = "o the block's own header, g the general header, d nowhere: the default";
     let notes = "A note says what is assumed for a block, read or refused,";
-    for words in ["list", "header", "get", "export", "check", letters, notes, "Exit status"] {
+    for words in ["list", "header", "get", "get --real FILE BLOCK KEY", "export", "check", letters, notes, "Exit status"] {
         assert!(text.contains(words), "{words}");
     }
     assert_eq!(edf(&["check", "-h"]).out, help.out);

@@ -142,6 +142,29 @@ impl fmt::Display for Origin {
     }
 }
 
+/// The unit that a real number is written with. It is shown as in a file: `m`, `deg` or `rad`.
+#[derive(Clone, Copy, Debug, PartialEq, Eq, Hash)]
+#[repr(u8)]
+#[allow(missing_docs)]
+pub enum Unit {
+    Metres = 1,
+    Degrees,
+    Radians,
+}
+
+impl Unit {
+    /// The word for it in a file.
+    pub fn name(self) -> &'static str {
+        ffi::unit_name(self as u8)
+    }
+}
+
+impl fmt::Display for Unit {
+    fn fmt(&self, f: &mut fmt::Formatter) -> fmt::Result {
+        f.pad(self.name())
+    }
+}
+
 /// What a block of an image holds: its values or their errors.
 #[derive(Clone, Copy, Debug, PartialEq, Eq, Hash)]
 #[repr(u8)]

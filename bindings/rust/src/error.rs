@@ -57,11 +57,13 @@ pub enum Code {
     BadArgument,
     /// Text over 1,023 characters.
     TextTooLong,
+    /// Real number with digits over 9,007,199,254,740,992 or a power of ten outside -22 to 22. No error has the number 26.
+    OutOfBounds = 27,
 }
 
 impl Code {
-    /// All codes, in the order of their numbers from 1.
-    pub const ALL: [Code; 25] = [
+    /// All codes, in the order of their numbers.
+    pub const ALL: [Code; 26] = [
         Code::FileTooLarge,
         Code::TableTooSmall,
         Code::NoHeader,
@@ -87,9 +89,10 @@ impl Code {
         Code::IndexOutside,
         Code::BadArgument,
         Code::TextTooLong,
+        Code::OutOfBounds,
     ];
 
-    /// The number of the error, 1 to 25.
+    /// The number of the error, 1 to 25 or 27.
     pub fn number(self) -> u8 {
         self as u8
     }
@@ -117,7 +120,7 @@ pub struct Error {
 impl Error {
     /// The error with this number, which the library answered.
     pub(crate) fn new(number: u8, position: usize) -> Error {
-        let code = *Code::ALL.get(usize::from(number).wrapping_sub(1)).expect("the library answers 0 to 25");
+        let code = Code::ALL.into_iter().find(|code| code.number() == number).expect("the library answers 0 to 25 or 27");
         Error { code, position }
     }
 
@@ -126,13 +129,13 @@ impl Error {
         self.code
     }
 
-    /// The number of the code, 1 to 25.
+    /// The number of the code, 1 to 25 or 27.
     pub fn number(&self) -> u8 {
         self.code.number()
     }
 
     /// Where: for codes 3 to 14 an offset in the file, the block's start or (4) the byte itself; for 17 and 18 the number of the
-    /// field, or 0 for a keyword read as a whole number; else 0.
+    /// field, or 0 for a keyword read as a whole number or as a real number; else 0.
     pub fn position(&self) -> usize {
         self.position
     }

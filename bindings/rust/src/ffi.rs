@@ -28,6 +28,10 @@ extern "C" {
         file: *const u8, file_length: usize, block: usize, key: *const u8, key_length: usize, value: *mut i64,
         position: *mut usize,
     ) -> u8;
+    fn edf_real(
+        file: *const u8, file_length: usize, block: usize, key: *const u8, key_length: usize, unit: *mut u8, value: *mut f64,
+        position: *mut usize,
+    ) -> u8;
     fn edf_escape(
         bytes: *const u8, bytes_length: usize, out: *mut u8, out_length: usize, length: *mut usize, position: *mut usize,
     ) -> u8;
@@ -62,6 +66,7 @@ extern "C" {
     fn edf_datatype_name(datatype: u8) -> *const c_char;
     fn edf_datatype_width(datatype: u8) -> usize;
     fn edf_byteorder_name(byteorder: u8) -> *const c_char;
+    fn edf_unit_name(unit: u8) -> *const c_char;
 }
 
 /// The fields of `edf_description`, in its order; `dim1`, `dim2`, `dim3` and the seven of `origins` as arrays.
@@ -153,6 +158,16 @@ pub fn whole_number(file: &[u8], block: usize, key: &[u8]) -> Result<i64, Error>
     let code =
         unsafe { edf_whole_number(file.as_ptr(), file.len(), block, key.as_ptr(), key.len(), &mut value, &mut position) };
     answer(code, position, value)
+}
+
+/// The unit of a real number, and its value.
+pub fn real(file: &[u8], block: usize, key: &[u8]) -> Result<(u8, f64), Error> {
+    let (mut unit, mut value, mut position) = (0, 0.0, 0);
+    // SAFETY: `file` and `key` are slices with their own lengths, the rest local numbers (see the top of this file).
+    let code = unsafe {
+        edf_real(file.as_ptr(), file.len(), block, key.as_ptr(), key.len(), &mut unit, &mut value, &mut position)
+    };
+    answer(code, position, (unit, value))
 }
 
 pub fn escape(bytes: &[u8], out: &mut [u8]) -> Result<usize, Error> {
@@ -271,4 +286,9 @@ pub fn datatype_width(datatype: u8) -> usize {
 pub fn byteorder_name(byteorder: u8) -> &'static str {
     // SAFETY: as in `words`.
     unsafe { name(edf_byteorder_name(byteorder)) }
+}
+
+pub fn unit_name(unit: u8) -> &'static str {
+    // SAFETY: as in `words`.
+    unsafe { name(edf_unit_name(unit)) }
 }

@@ -4,6 +4,7 @@ use crate::array::Array;
 use crate::codes::Instance;
 use crate::error::{Code, Error};
 use crate::keywords::{keywords, Keyword};
+use crate::real::Real;
 use crate::{ffi, text, MOST_BLOCKS};
 use std::fmt;
 
@@ -235,6 +236,23 @@ impl<'a> Block<'a> {
     /// The value of a keyword as a whole number. Codes 16, 18.
     pub fn whole_number(&self, key: impl AsRef<[u8]>) -> Result<i64, Error> {
         ffi::whole_number(self.source.bytes, self.source.number, key.as_ref())
+    }
+
+    /// The value of a keyword as a real number with its unit. Codes 16, 18 for another form than [`Real`] says, then 27 outside its
+    /// bounds.
+    ///
+    /// ```
+    /// # let header = format!("{{ {:<507} }}\n", "WaveLength = 9.90376e-11 ; SampleDistance = 9.82514_m ;");
+    /// # let file = edf::File::open(header.as_bytes())?;
+    /// use edf::Real;
+    /// let block = file.block(0)?; // its header has WaveLength = 9.90376e-11 and SampleDistance = 9.82514_m
+    /// assert_eq!(block.real("WaveLength")?, Real::Number(9.90376e-11));
+    /// assert_eq!(block.real("SampleDistance")?, Real::Metres(9.82514));
+    /// # Ok::<(), edf::Error>(())
+    /// ```
+    pub fn real(&self, key: impl AsRef<[u8]>) -> Result<Real, Error> {
+        let (unit, value) = ffi::real(self.source.bytes, self.source.number, key.as_ref())?;
+        Ok(Real::of(unit, value))
     }
 
     /// The array of the block, described. Codes 16 to 21.

@@ -45,15 +45,17 @@ mod file;
 mod frame;
 mod keywords;
 mod list;
+mod real;
 mod text;
 
 pub use array::{Array, Description, Origins, Pixel};
-pub use codes::{ByteOrder, Compression, DataType, Instance, Origin};
+pub use codes::{ByteOrder, Compression, DataType, Instance, Origin, Unit};
 pub use error::{Code, Error};
 pub use file::{Block, BlockKind, File, Identity, Span};
 pub use frame::{write, Frame};
 pub use keywords::Keyword;
 pub use list::list;
+pub use real::Real;
 pub use text::{escape, unescape};
 
 /// The most blocks of a file.

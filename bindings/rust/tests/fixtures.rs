@@ -181,8 +181,6 @@ fn errors_have_words() {
     let error = File::open(&bytes).unwrap().block(0).unwrap().array().unwrap_err();
     assert_eq!((error.number(), error.field()), (17, Some("ByteOrder")));
     assert_eq!(error.to_string(), "error 17 at 2: unknown word in ByteOrder");
-    for (index, code) in Code::ALL.iter().enumerate() {
-        assert_eq!(usize::from(code.number()), index + 1);
-        assert!(code.words().len() > 5);
-    }
+    assert_eq!(Code::ALL.map(Code::number).to_vec(), (1..=25).chain([27]).collect::<Vec<u8>>());
+    assert!(Code::ALL.iter().all(|code| code.words().len() > 5 && code.words() != "unknown code"));
 }
