@@ -5,7 +5,7 @@ use super::dress;
 use super::plan::Plan;
 use super::random::Random;
 use super::values::value_calls;
-use super::words::KEYS;
+use super::words::{KEYS, REAL_KEYS};
 use crate::answer::Call;
 use crate::reader::{describe, find, list, open, read_array, text};
 
@@ -51,6 +51,7 @@ fn block_calls(random: &mut Random, plan: &Plan, file: &[u8], block: usize, call
     let key = key(random, plan, block);
     calls.push(Call::Find { block, key: key.clone() });
     calls.push(Call::WholeNumber { block, key: key.clone() });
+    calls.push(Call::Real { block, key: real_key(random, &key) });
     let key = if random.percent(50) { b"Title".to_vec() } else { key };
     let length = text(file, block, &key, ROOMY).map_or(5, |text| text.len());
     calls.push(Call::Text { block, key, room: room(random, length) });
@@ -93,6 +94,15 @@ fn key(random: &mut Random, plan: &Plan, block: usize) -> Vec<u8> {
         _ => random.pick(&KEYS).as_bytes().to_vec(),
     };
     dress::sought(random, &name)
+}
+
+/// Mostly a key whose value is the text of a real, else this key.
+fn real_key(random: &mut Random, key: &[u8]) -> Vec<u8> {
+    if random.percent(30) {
+        return key.to_vec();
+    }
+    let name = random.pick(&REAL_KEYS);
+    dress::sought(random, name.as_bytes())
 }
 
 /// A span that a value has, or one at the file's end.
