@@ -51,7 +51,8 @@ enum {
     EDF_BUFFER_TOO_SMALL = 22,     /* buffer too small */
     EDF_INDEX_OUTSIDE = 23,        /* index outside the array */
     EDF_BAD_ARGUMENT = 24,         /* bad argument */
-    EDF_TEXT_TOO_LONG = 25         /* text over 1,023 characters */
+    EDF_TEXT_TOO_LONG = 25,        /* text over 1,023 characters */
+    EDF_OUT_OF_BOUNDS = 27         /* a real outside the bounds */
 };
 
 /* Data types, as edf_describe gives them and edf_write takes them. */
@@ -78,6 +79,9 @@ enum { EDF_UNSIGNED = 1, EDF_SIGNED = 2, EDF_FLOAT32 = 3, EDF_FLOAT64 = 4 };
 /* Where a field of a description came from: the block's own header; the general header; or the default, because no header in reach
  * has the keyword. A written value has its header's origin, also where it equals the default. */
 enum { EDF_ORIGIN_OWN = 1, EDF_ORIGIN_GENERAL = 2, EDF_ORIGIN_DEFAULT = 3 };
+
+/* Units of reals. */
+enum { EDF_UNIT_NONE = 0, EDF_UNIT_METRES = 1, EDF_UNIT_DEGREES = 2, EDF_UNIT_RADIANS = 3 };
 
 /* The most blocks of a file and bytes of a file; buffers that always suffice for edf_text and edf_unescape, for edf_escape, and for
  * edf_list. */
@@ -123,6 +127,11 @@ uint8_t edf_text(const uint8_t *file, size_t file_length, size_t block, const ui
 /* The value of a keyword as a whole number. Errors: those of opening, 16, 18 at position 0. */
 uint8_t edf_whole_number(const uint8_t *file, size_t file_length, size_t block, const uint8_t *key, size_t key_length,
                          int64_t *value, size_t *position);
+
+/* The value of a keyword as a real: *unit is EDF_UNIT_NONE to EDF_UNIT_RADIANS, *value its float. Errors: those of opening, 16, 18 and
+ * 27 at position 0. */
+uint8_t edf_real(const uint8_t *file, size_t file_length, size_t block, const uint8_t *key, size_t key_length, uint8_t *unit,
+                 double *value, size_t *position);
 
 /* Text in value form, in quotes and with escapes, at the front of `out`; *length is its bytes. Errors: 24 (byte 0 or a byte above
  * 127), 25, 22. */
