@@ -127,6 +127,9 @@ impl Pieces {
         let (over, under) = if power < 0 { (whole, fives) } else { (whole * fives, 1) };
         let (over, under) = of_54_bits(over, under);
         let (quotient, rest) = (over / under, over % under);
+        if quotient == (1 << 54) - 1 {
+            return Some("up to a power of two".to_string());
+        }
         match (quotient % 4, rest) {
             (1, 0) => Some("midway, even below".to_string()),
             (3, 0) => Some("midway, even above".to_string()),
@@ -210,7 +213,7 @@ fn wanted() -> Vec<(String, usize)> {
         "exponent 9223372036854775807: 27", "exponent 9223372036854775808: 18", "exponent -9223372036854775808: 27",
         "exponent -9223372036854775809: 18", "zero: good", "zero: 27", "minus zero: good", "minus zero: 27",
         "midway, even below, by multiplication", "midway, even above, by multiplication", "just below midway, by multiplication",
-        "just above midway, by multiplication", "just below midway, by division", "just above midway, by division",
+        "just above midway, by multiplication", "just below midway, by division", "just above midway, by division", "up to a power of two",
     ];
     wanted.extend(sides.map(|side| (side.to_string(), 500)));
     let faults = ["second point", "second e", "second underscore", "capital E", "white inside", "CR or LF inside", "no such unit", "no digits after e"];

@@ -78,7 +78,7 @@ fn all_features() -> Vec<(String, usize)> {
     let mut all: Vec<(String, usize)> = few.map(|feature| (feature.to_string(), 10 * OFTEN)).to_vec();
     all.extend((1..=10).map(|code| (format!("type {code}"), 4 * OFTEN)));
     all.extend((0..=3).map(|unit| (format!("unit {unit}"), 10 * OFTEN)));
-    all.extend(["0.0 as a real", "-0.0 as a real"].map(|zero| (zero.to_string(), 2 * OFTEN)));
+    all.extend(["0.0 as a real", "-0.0 as a real"].map(|zero| (zero.to_string(), OFTEN)));
     all.extend(FIELDS.iter().flat_map(|field| ORIGINS.map(|origin| (format!("{field} {origin:?}"), 4 * OFTEN))));
     for (n, configurations) in [(1, 2), (2, 8), (3, 48)] {
         all.extend((1..=configurations).map(|number| (format!("N {n} configuration {number}"), OFTEN / 5)));

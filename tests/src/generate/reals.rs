@@ -22,6 +22,12 @@ const NEAR_UNITS: [&str; 28] = [
     "_rads", "_Rad", "_RAD", "_rd", "_deg_rad", "_A",
 ];
 
+/// What is nearly a number.
+const NEAR_NUMBERS: [&str; 24] = [
+    "", ".", ".e1", "e5", "e", "1e", "1.e", "1e+", "1e-", "1E5", "1E-5", "1e1.0", "1e.1", "..1", "1..", "1.2.3", "1e1e1", "1e1e", "-1", "1e+-1", "0x10", "1,5",
+    "nan", "inf",
+];
+
 /// Bytes that the form of a real may have, and their neighbours.
 const TELLING: &[u8] = b"0123456789..ee__+-+-mdegrad EEMDR\"\t\r\n\x0b\x0c/:,=fx\x01\x7f";
 
@@ -32,7 +38,8 @@ pub fn text(random: &mut Random) -> String {
         25..=54 => at_the_power(random),
         55..=66 => at_the_exponent(random),
         67..=84 => midway(random),
-        _ => within(random),
+        85..=95 => within(random),
+        _ => random.pick(&NEAR_NUMBERS).to_string(),
     };
     let sign = random.pick(&["", "", "", "-", "-", "+"]);
     let unit = if random.percent(6) { random.pick(&NEAR_UNITS) } else { random.pick(&UNITS) };
@@ -123,13 +130,15 @@ fn within(random: &mut Random) -> String {
     written(random, &digits, power)
 }
 
-/// A number midway between two floats, or as near to it as digits in bounds come.
+/// A number midway between two floats, or as near to it as digits in bounds come; or one beside a power of two.
 fn midway(random: &mut Random) -> String {
     loop {
         let power = random.from_to(1, 22);
-        let (digits, power) = match random.below(2) {
-            0 => (product(random, power as u32), power as i64),
-            _ => (quotient(random, power as u32), -(power as i64)),
+        let (digits, power) = match random.below(6) {
+            0 | 1 => (product(random, power as u32), power as i64),
+            2 | 3 => (quotient(random, power as u32), -(power as i64)),
+            4 => (over_ten(random, power as u32), power as i64),
+            _ => (times_ten(random, power as u32), -(power as i64)),
         };
         if let Some(digits) = digits {
             return written(random, &digits.to_string(), power);
@@ -165,6 +174,20 @@ fn quotient(random: &mut Random, power: u32) -> Option<u128> {
     let least = (fives << 53).div_ceil(1 << shift);
     let most = ((fives << 54) - 1) >> shift;
     one_of(random, digits, fives, least, most)
+}
+
+/// Digits whose product with 10^power is beside a power of two.
+fn over_ten(random: &mut Random, power: u32) -> Option<u128> {
+    let tens = 10u128.pow(power);
+    let twos = 1u128 << (tens.ilog2() as usize + random.from_to(51, 53));
+    Some(twos / tens + random.below(2) as u128).filter(|&digits| digits <= u128::from(GREATEST_DIGITS))
+}
+
+/// Digits whose quotient by 10^power is beside a power of two.
+fn times_ten(random: &mut Random, power: u32) -> Option<u128> {
+    let all = 10u128.pow(power) << 53;
+    let digits = (all >> (all.ilog2() as usize - random.from_to(51, 53))) + random.below(2) as u128;
+    Some(digits).filter(|&digits| digits <= u128::from(GREATEST_DIGITS))
 }
 
 /// A number in this range, and at most the greatest digits, that is `rest` but for a multiple of `step`.
@@ -222,6 +245,21 @@ mod tests {
             count += 1;
         }
         assert!(count > 500, "{count}");
+    }
+
+    /// The power of two lies at most one unit of the last digit away.
+    #[test]
+    fn beside_a_power_of_two() {
+        let mut random = Random::new(4);
+        for power in 1..=22 {
+            let tens = 10u128.pow(power);
+            let digits = (0..9).find_map(|_| over_ten(&mut random, power)).unwrap();
+            let twos = |digits: u128| (digits * tens).next_power_of_two();
+            assert!(twos(digits - 1) - (digits - 1) * tens < 2 * tens, "{digits} {power}");
+            let digits = (0..9).find_map(|_| times_ten(&mut random, power)).unwrap();
+            let log = |digits: u128| ((digits << 73) / tens).ilog2();
+            assert!(log(digits + 1) > log(digits - 2), "{digits} {power}");
+        }
     }
 
     #[test]
