@@ -1,6 +1,7 @@
-//! 200,000 texts, each as the value of a keyword, read as reals: the library and the second reader give the same unit and every bit of
-//! the same float, or the same error; where they give a float, Rust's own library reads the same one. At least half of the texts are within one digit
-//! of a bound. What a text shows is judged here by cutting it, in another way than the second reader reads it.
+//! Generated texts, each as the value of a keyword, read as reals: the library and the second reader give the same unit and every bit of
+//! the same float, or the same error; where they give a float, Rust's own library reads the same one. At least half of the texts are
+//! within one digit of a bound. What a text shows is judged here by cutting it, in another way than the second reader reads it.
+//! EDF_SEED and EDF_TEXTS say which texts, and how many.
 
 use edf_tests::answer::{answer, Answer, Call};
 use edf_tests::files::padded;
@@ -10,7 +11,7 @@ use edf_tests::library;
 use edf_tests::parallel;
 use std::collections::{BTreeMap, BTreeSet};
 
-const SEED: u64 = 2;
+/// How many texts there are unless EDF_TEXTS says otherwise; `wanted` is for so many.
 const TEXTS: usize = 200_000;
 
 const GREATEST_DIGITS: &str = "9007199254740992";
@@ -21,6 +22,10 @@ const POWERS: [i128; 6] = [-23, -22, -21, 21, 22, 23];
 /// The point is to stand at each place up to this, as many digits as are significant at most.
 const MOST_PLACES: usize = 16;
 
+fn number(name: &str, default: usize) -> usize {
+    std::env::var(name).map_or(default, |text| text.parse().expect(name))
+}
+
 /// A file whose only keyword has this value, its header filled to a multiple of 512.
 fn file(text: &str) -> Vec<u8> {
     let body = format!("w={text};");
@@ -28,10 +33,10 @@ fn file(text: &str) -> Vec<u8> {
 }
 
 /// The answer that both give.
-fn compared(number: usize, text: &str) -> Answer {
+fn compared(text: &str) -> Answer {
     let (file, call) = (file(text), Call::Real { block: 0, key: b"w".to_vec() });
     let expected = answer(&file, &call);
-    assert_eq!(library::answer(&file, &call), Some(expected.clone()), "seed {SEED}, text {number}: {text:?}");
+    assert_eq!(library::answer(&file, &call), Some(expected.clone()), "{text:?}");
     expected
 }
 
@@ -184,19 +189,18 @@ fn as_rust_reads_it(text: &str, bits: u64) {
 }
 
 /// All that a text and its answer show: outcome, nearness to a bound, sides of bounds with the outcome.
-fn shown(number: usize) -> BTreeSet<String> {
-    let text = reals::text(&mut Random::of(SEED, number as u64));
-    let answer = compared(number, &text);
+fn shown(text: &str) -> BTreeSet<String> {
+    let answer = compared(text);
     if let Answer::Real { bits, .. } = answer {
-        as_rust_reads_it(&text, bits);
+        as_rust_reads_it(text, bits);
     }
     let outcome = outcome(&answer);
     let good = if outcome.starts_with("unit") { "good" } else { &outcome };
     let mut shown = BTreeSet::from([outcome.clone()]);
     if outcome == "18" {
-        shown.extend(faults(&text));
+        shown.extend(faults(text));
     }
-    if let Some(pieces) = pieces(&text) {
+    if let Some(pieces) = pieces(text) {
         shown.extend(pieces.near_a_bound().then(|| "near a bound".to_string()));
         shown.extend(pieces.sides().into_iter().map(|side| format!("{side}: {good}")));
         shown.extend(pieces.midway().filter(|_| good == "good"));
@@ -206,7 +210,8 @@ fn shown(number: usize) -> BTreeSet<String> {
 
 /// How many of the texts are to show each of these at least.
 fn wanted() -> Vec<(String, usize)> {
-    let mut wanted: Vec<(String, usize)> = ["unit 0", "unit 1", "unit 2", "unit 3", "18", "27"].map(|outcome| (outcome.to_string(), 10_000)).to_vec();
+    let outcomes = ["unit 0", "unit 1", "unit 2", "unit 3", "18", "27"];
+    let mut wanted: Vec<(String, usize)> = outcomes.map(|outcome| (outcome.to_string(), 10_000)).to_vec();
     let sides = [
         "digits 9007199254740991: good", "digits 9007199254740992: good", "digits 9007199254740993: 27",
         "power -23: 27", "power -22: good", "power -21: good", "power 21: good", "power 22: good", "power 23: 27",
@@ -227,13 +232,15 @@ fn wanted() -> Vec<(String, usize)> {
 
 #[test]
 fn texts_are_read_alike() {
+    let (seed, texts) = (number("EDF_SEED", 1) as u64, number("EDF_TEXTS", TEXTS));
     let mut counts: BTreeMap<String, usize> = BTreeMap::new();
-    let all = parallel::for_each(0..TEXTS, shown);
+    let all = parallel::for_each(0..texts, |number| shown(&reals::text(&mut Random::of(seed, number as u64))));
     all.into_iter().flatten().for_each(|what| *counts.entry(what).or_default() += 1);
-    println!("seed {SEED}, {TEXTS} texts: {counts:#?}");
-    assert!(counts["near a bound"] * 2 >= TEXTS, "{} near a bound", counts["near a bound"]);
+    println!("seed {seed}, {texts} texts: {counts:#?}");
+    assert!(counts["near a bound"] * 2 >= texts, "{} near a bound", counts["near a bound"]);
     for (what, least) in wanted() {
-        assert!(counts.get(&what).is_some_and(|&count| count >= least), "{what}: {:?}", counts.get(&what));
+        let count = counts.get(&what).copied().unwrap_or(0);
+        assert!(count * TEXTS >= least * texts, "{what}: {count}");
     }
 }
 

@@ -18,14 +18,14 @@ const UNITS: [&str; 8] = ["", "", "", "", "_m", "_m", "_deg", "_rad"];
 
 /// What is nearly a unit.
 const NEAR_UNITS: [&str; 28] = [
-    "_M", "_mm", "_km", "_nm", "_", "__m", "_m_m", "_m_", "_ m", " _m", "\t_m", "m", "-m", "_m.", "_m1", "_Deg", "_DEG", "_de", "_degr", "_dge", "deg", "_ra",
-    "_rads", "_Rad", "_RAD", "_rd", "_deg_rad", "_A",
+    "_M", "_mm", "_km", "_nm", "_", "__m", "_m_m", "_m_", "_ m", " _m", "\t_m", "m", "-m", "_m.", "_m1", "_Deg", "_DEG", "_de", "_degr",
+    "_dge", "deg", "_ra", "_rads", "_Rad", "_RAD", "_rd", "_deg_rad", "_A",
 ];
 
 /// What is nearly a number.
 const NEAR_NUMBERS: [&str; 24] = [
-    "", ".", ".e1", "e5", "e", "1e", "1.e", "1e+", "1e-", "1E5", "1E-5", "1e1.0", "1e.1", "..1", "1..", "1.2.3", "1e1e1", "1e1e", "-1", "1e+-1", "0x10", "1,5",
-    "nan", "inf",
+    "", ".", ".e1", "e5", "e", "1e", "1.e", "1e+", "1e-", "1E5", "1E-5", "1e1.0", "1e.1", "..1", "1..", "1.2.3", "1e1e1", "1e1e", "-1",
+    "1e+-1", "0x10", "1,5", "nan", "inf",
 ];
 
 /// Bytes that the form of a real may have, and their neighbours.

@@ -44,7 +44,7 @@ pub struct Written {
     pub unit: fn(f64) -> Real,
 }
 
-/// What has been read, from the left, when a byte is next.
+/// What the last byte was, read from the left.
 #[derive(Clone, Copy, PartialEq)]
 enum Place {
     Start,
@@ -167,7 +167,7 @@ impl Fraction {
         let dropped = 128 - quotient.leading_zeros() - 53;
         let (kept, rest) = (quotient >> dropped, quotient & ((1 << dropped) - 1));
         let twice = (2 * rest, u128::from(remainder > 0));
-        let half = (1 << dropped, 0);
+        let half: (u128, u128) = (1 << dropped, 0);
         let up = twice > half || (twice == half && kept % 2 == 1);
         bits(kept + u128::from(up), twos + dropped as i32)
     }
