@@ -10,6 +10,7 @@ pub enum Call {
     Find { block: usize, key: Vec<u8> },
     Part { start: usize, length: usize },
     WholeNumber { block: usize, key: Vec<u8> },
+    Real { block: usize, key: Vec<u8> },
     Text { block: usize, key: Vec<u8>, room: usize },
     Describe { block: usize },
     ReadArray { block: usize, order: u8, room: usize },
@@ -23,13 +24,15 @@ pub enum Call {
     Print,
 }
 
-/// An answer of one call. Floats are their bits, and none for NaN: "compare as is NaN only".
+/// An answer of one call. Floats of pixels are their bits, and none for NaN: "compare as is NaN only".
 #[derive(Clone, Debug, PartialEq)]
 pub enum Answer {
     Rows(Vec<Row>),
     Place { start: usize, length: usize },
     Bytes(Vec<u8>),
     Number(i64),
+    /// A real: 0 for a bare number, 1 for metres, 2 for degrees, 3 for radians, and the bits of its float.
+    Real { unit: u8, bits: u64 },
     Description(Description),
     /// Where an array stands in its file; its bytes where they stand there as they are delivered.
     Stored { description: Description, start: usize, length: usize, delivered: Option<Vec<u8>> },
@@ -90,6 +93,12 @@ macro_rules! answer_function {
                 $reader::Pixel::Float32(value) => float_32(value),
                 $reader::Pixel::Float64(value) => float_64(value),
             };
+            let real = |r: $reader::Real| match r {
+                $reader::Real::Number(value) => Answer::Real { unit: 0, bits: value.to_bits() },
+                $reader::Real::Metres(value) => Answer::Real { unit: 1, bits: value.to_bits() },
+                $reader::Real::Degrees(value) => Answer::Real { unit: 2, bits: value.to_bits() },
+                $reader::Real::Radians(value) => Answer::Real { unit: 3, bits: value.to_bits() },
+            };
             let answer = match call {
                 Call::Open { rows } => {
                     $reader::open(file, *rows).map(|table| Answer::Rows(table.iter().map(row).collect()))
@@ -101,6 +110,7 @@ macro_rules! answer_function {
                     Ok(Answer::Bytes($reader::part(file, span).to_vec()))
                 }
                 Call::WholeNumber { block, key } => $reader::whole_number(file, *block, key).map(Answer::Number),
+                Call::Real { block, key } => $reader::real(file, *block, key).map(real),
                 Call::Text { block, key, room } => $reader::text(file, *block, key, *room).map(Answer::Bytes),
                 Call::Describe { block } => {
                     $reader::describe(file, *block).map(|d| Answer::Description(description(d)))

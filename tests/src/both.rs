@@ -2,7 +2,7 @@
 
 use crate::answer::{answer, Answer, Call};
 use crate::library;
-use crate::reader::{self, Description, Error, Frame, Pixel, Row, Span};
+use crate::reader::{self, Description, Error, Frame, Pixel, Real, Row, Span};
 
 /// The answer that both give.
 pub fn both(file: &[u8], call: &Call) -> Answer {
@@ -31,6 +31,11 @@ pub fn part(file: &[u8], span: Span) -> &[u8] {
 pub fn whole_number(file: &[u8], block: usize, key: &[u8]) -> Result<i64, Error> {
     both(file, &Call::WholeNumber { block, key: key.to_vec() });
     reader::whole_number(file, block, key)
+}
+
+pub fn real(file: &[u8], block: usize, key: &[u8]) -> Result<Real, Error> {
+    both(file, &Call::Real { block, key: key.to_vec() });
+    reader::real(file, block, key)
 }
 
 pub fn text(file: &[u8], block: usize, key: &[u8], room: usize) -> Result<Vec<u8>, Error> {

@@ -16,6 +16,10 @@ extern "C" {
         file: *const u8, file_length: usize, block: usize, key: *const u8, key_length: usize, value: *mut i64,
         position: *mut usize,
     ) -> u8;
+    fn edf_real(
+        file: *const u8, file_length: usize, block: usize, key: *const u8, key_length: usize, unit: *mut u8,
+        value: *mut f64, position: *mut usize,
+    ) -> u8;
     fn edf_text(
         file: *const u8, file_length: usize, block: usize, key: *const u8, key_length: usize, out: *mut u8,
         out_length: usize, length: *mut usize, position: *mut usize,
@@ -189,6 +193,25 @@ fn whole_number(file: &[u8], block: usize, key: &[u8]) -> Answer {
     }
 }
 
+/// A real; its unit and its float have guards.
+fn real(file: &[u8], block: usize, key: &[u8]) -> Answer {
+    one_real(|unit, value, position| unsafe {
+        edf_real(file.as_ptr(), file.len(), block, key.as_ptr(), key.len(), unit, value, position)
+    })
+}
+
+/// A call that writes a unit and a float.
+fn one_real(call: impl Fn(*mut u8, *mut f64, *mut usize) -> u8) -> Answer {
+    let (mut unit, mut bits, mut position) = (Lent::new(1, byte_pattern), Lent::new(1, number_pattern), KEPT);
+    match call(unit.start(), bits.start().cast(), &mut position) {
+        0 => match (unit.written(1), bits.written(1)) {
+            (Some(&[unit]), Some(&[bits])) => if_kept(position == KEPT, Answer::Real { unit, bits }),
+            _ => Answer::Broken("something beside the unit and the float was changed"),
+        },
+        code => if_kept(unit.written(0).is_some() && bits.written(0).is_some(), Answer::Failed { code, position }),
+    }
+}
+
 fn description_pattern(index: usize) -> edf_description {
     let number = number_pattern(index);
     edf_description {
@@ -324,6 +347,7 @@ pub fn answer(file: &[u8], call: &Call) -> Option<Answer> {
         Call::Open { rows } => open_numbers(file, 7 * rows),
         Call::Find { block, key } => find(file, *block, key),
         Call::WholeNumber { block, key } => whole_number(file, *block, key),
+        Call::Real { block, key } => real(file, *block, key),
         Call::Text { block, key, room } => into_buffer(*room, |out, room, length, position| unsafe {
             edf_text(bytes, size, *block, key.as_ptr(), key.len(), out, room, length, position)
         }),
@@ -371,6 +395,28 @@ mod tests {
         for number in [0, 4, u64::MAX] {
             assert_eq!(origins(&edf_origins { dims: number, ..origins_pattern(1) }), None);
         }
+    }
+
+    /// What `one_real` makes of a call that writes a unit and a float at these offsets and answers a code and position.
+    fn real_seen(unit: Option<isize>, float: Option<isize>, code: u8, position: usize) -> Answer {
+        one_real(|unit_out, value_out, position_out| unsafe {
+            unit.into_iter().for_each(|offset| unit_out.offset(offset).write(3));
+            float.into_iter().for_each(|offset| value_out.offset(offset).write(-0.0));
+            *position_out = position;
+            code
+        })
+    }
+
+    #[test]
+    fn what_a_real_may_do() {
+        assert_eq!(real_seen(Some(0), Some(0), 0, KEPT), Answer::Real { unit: 3, bits: 1 << 63 });
+        assert_eq!(real_seen(None, None, 27, 0), Answer::Failed { code: 27, position: 0 });
+        let broken = |answer: Answer| assert!(matches!(answer, Answer::Broken(_)), "{answer:?}");
+        broken(real_seen(Some(1), Some(0), 0, KEPT));
+        broken(real_seen(Some(0), Some(-1), 0, KEPT));
+        broken(real_seen(Some(0), Some(0), 0, 0));
+        broken(real_seen(Some(0), None, 18, 0));
+        broken(real_seen(None, Some(0), 27, 0));
     }
 
     #[test]

@@ -23,6 +23,9 @@ fn description(d: &Description) -> String {
     format!("{codes} {dims} {} {} {} {letters}", d.configuration, d.orientation, d.offset)
 }
 
+/// The names of a real's units, by their numbers.
+const UNITS: [&str; 4] = ["number", "metres", "degrees", "radians"];
+
 /// An answer; bytes are numbers, and a float is its value.
 pub fn told(answer: &Answer) -> String {
     match answer {
@@ -30,6 +33,7 @@ pub fn told(answer: &Answer) -> String {
         Answer::Place { start, length } => joined([start, length]),
         Answer::Bytes(bytes) => joined(bytes),
         Answer::Number(number) => number.to_string(),
+        Answer::Real { unit, bits } => format!("{} {:?}", UNITS[usize::from(*unit)], f64::from_bits(*bits)),
         Answer::Description(d) => description(d),
         Answer::Unsigned(value) => format!("unsigned {value}"),
         Answer::Signed(value) => format!("signed {value}"),

@@ -1,5 +1,6 @@
 //! The functions that the tests call are all functions of the verified library, with the arguments that include/edf.h gives them; the
-//! description has the members, and the numbers of origins and of the longest listing are those, that include/edf.h gives.
+//! description has the members, and the numbers of origins, of units, of the error that only reals have and of the longest listing are those,
+//! that include/edf.h gives.
 
 use std::collections::{BTreeMap, BTreeSet};
 use std::fs;
@@ -103,6 +104,7 @@ fn the_same_functions() {
     assert_eq!(header, of_tests(&read("src/library.rs")));
     assert!(header.len() >= 10);
     assert_eq!(header["edf_find"], ["*const u8", "usize", "usize", "*const u8", "usize", "*mut usize", "*mut usize", "*mut usize", "u8"]);
+    assert_eq!(header["edf_real"], ["*const u8", "usize", "usize", "*const u8", "usize", "*mut u8", "*mut f64", "*mut usize", "u8"]);
 }
 
 #[test]
@@ -118,7 +120,10 @@ fn the_same_description() {
 #[test]
 fn the_same_numbers() {
     let header = without_comments(&read("../include/edf.h"));
-    let numbers = [("EDF_ORIGIN_OWN", 1), ("EDF_ORIGIN_GENERAL", 2), ("EDF_ORIGIN_DEFAULT", 3), ("EDF_LIST_CAPACITY", 28 + 300 * 256)];
+    let numbers = [
+        ("EDF_ORIGIN_OWN", 1), ("EDF_ORIGIN_GENERAL", 2), ("EDF_ORIGIN_DEFAULT", 3), ("EDF_UNIT_NONE", 0), ("EDF_UNIT_METRES", 1),
+        ("EDF_UNIT_DEGREES", 2), ("EDF_UNIT_RADIANS", 3), ("EDF_OUT_OF_BOUNDS", 27), ("EDF_LIST_CAPACITY", 28 + 300 * 256),
+    ];
     for (name, number) in numbers {
         let given = header.split([',', '{', '}']).map(str::trim).find_map(|part| part.strip_prefix(name)?.strip_prefix(" = "));
         assert_eq!(given, Some(number.to_string().as_str()), "{name}");

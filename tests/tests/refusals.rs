@@ -149,6 +149,26 @@ fn twenty_two_to_twenty_five() {
     assert_eq!(outcome(list(&file, 70)), (22, 0));
 }
 
+/// Numbers that are just in bounds, and just outside; bad form comes first, and no keyword before that.
+#[test]
+fn twenty_seven() {
+    let read = |value: &str| outcome(real(&plain(format!("w={value};")), 0, b"w"));
+    let sides = [
+        ("9007199254740992", "9007199254740993"), ("-900719925474099.2_m", "-900719925474099.3_m"), ("1e22", "1e23"), ("-0e22", "-0e23"),
+        ("1e-22_rad", "1e-23_rad"), ("1.5e-21", "1.5e-22"), ("1.5e23", "15e23"), (".0000000000000000000000", ".00000000000000000000000"),
+        ("1.000000000000000_deg", "1.0000000000000000_deg"),
+    ];
+    for (inside, outside) in sides {
+        assert_eq!((read(inside), read(outside)), (GOOD, (27, 0)), "{inside} {outside}");
+        assert_eq!((read(&format!("{inside}x")), read(&format!("{outside}x"))), ((18, 0), (18, 0)), "{inside} {outside}");
+    }
+    assert_eq!((read("1e9223372036854775807"), read("1e9223372036854775808")), ((27, 0), (18, 0)));
+    assert_eq!((read("1e-9223372036854775808"), read("1e-9223372036854775809")), ((27, 0), (18, 0)));
+    assert_eq!(outcome(real(&plain("w=1e23;"), 0, b"v")), (16, 0));
+    assert_eq!(outcome(real(&plain("w=1e23;"), 1, b"w")), (16, 0));
+    assert_eq!(outcome(real(&padded("w=1e23;", 511), 0, b"w")), (11, 0));
+}
+
 /// 256 lines as long as a small file can make them: 76,828 bytes, 28 for the first line and 300 for each block, are room for them.
 #[test]
 fn twenty_two_for_a_long_listing() {

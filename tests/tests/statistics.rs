@@ -1,5 +1,5 @@
 //! The generated cases reach often: every number of refusal, success of every call, both kinds of file, few and many blocks, every type,
-//! every configuration, every class of pixel, every origin of every field.
+//! every configuration, every class of pixel, every origin of every field, every unit of a real.
 
 use edf_tests::answer::{answer, Answer, Call};
 use edf_tests::generate::{case, Case};
@@ -26,6 +26,7 @@ fn name(call: &Call) -> &'static str {
         Call::Find { .. } => "find",
         Call::Part { .. } => "part",
         Call::WholeNumber { .. } => "whole_number",
+        Call::Real { .. } => "real",
         Call::Text { .. } => "text",
         Call::Describe { .. } => "describe",
         Call::ReadArray { .. } => "read_array",
@@ -59,6 +60,10 @@ fn features(answer: &Answer) -> Vec<String> {
         }
         Answer::Stored { delivered: Some(_), .. } => vec!["stored as delivered".to_string()],
         Answer::Stored { delivered: None, .. } => vec!["stored otherwise".to_string()],
+        Answer::Real { unit, bits } => {
+            let zero = Some(format!("{:?} as a real", f64::from_bits(*bits))).filter(|_| bits << 1 == 0);
+            zero.into_iter().chain([format!("unit {unit}")]).collect()
+        }
         Answer::Unsigned(_) => vec!["unsigned pixel".to_string()],
         Answer::Signed(_) => vec!["signed pixel".to_string()],
         Answer::Float32(_) => vec!["32-bit float pixel".to_string()],
@@ -72,6 +77,8 @@ fn all_features() -> Vec<(String, usize)> {
     let few = ["kind 1", "kind 2", "order 1", "order 2", "stored as delivered", "stored otherwise", "unsigned pixel", "signed pixel", "32-bit float pixel", "64-bit float pixel"];
     let mut all: Vec<(String, usize)> = few.map(|feature| (feature.to_string(), 10 * OFTEN)).to_vec();
     all.extend((1..=10).map(|code| (format!("type {code}"), 4 * OFTEN)));
+    all.extend((0..=3).map(|unit| (format!("unit {unit}"), 10 * OFTEN)));
+    all.extend(["0.0 as a real", "-0.0 as a real"].map(|zero| (zero.to_string(), OFTEN)));
     all.extend(FIELDS.iter().flat_map(|field| ORIGINS.map(|origin| (format!("{field} {origin:?}"), 4 * OFTEN))));
     for (n, configurations) in [(1, 2), (2, 8), (3, 48)] {
         all.extend((1..=configurations).map(|number| (format!("N {n} configuration {number}"), OFTEN / 5)));
@@ -132,10 +139,13 @@ fn check_outcomes(all: &[Seen]) {
     let codes = |seen: &Seen| seen.outcomes.iter().map(|(_, code)| *code).collect::<BTreeSet<u8>>();
     let by_code = counts(all.iter().flat_map(codes));
     println!("by code {by_code:?}");
-    for code in 0..=25 {
+    for code in (0..=25).chain([27]) {
         assert!(by_code.get(&code).is_some_and(|&count| count >= OFTEN), "code {code}");
     }
-    for call in ["open", "find", "whole_number", "text", "describe", "read_array", "read_pixel", "escape", "unescape", "write", "list"] {
+    for code in [16, 18, 27] {
+        assert!(by_call[&("real", code)] >= 20 * OFTEN, "real gives {code}");
+    }
+    for call in ["open", "find", "whole_number", "real", "text", "describe", "read_array", "read_pixel", "escape", "unescape", "write", "list"] {
         assert!(by_call[&(call, 0)] >= 20 * OFTEN, "{call} succeeds");
     }
 }

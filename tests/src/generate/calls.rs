@@ -5,7 +5,7 @@ use super::dress;
 use super::plan::Plan;
 use super::random::Random;
 use super::values::value_calls;
-use super::words::KEYS;
+use super::words::{KEYS, REAL_KEYS};
 use crate::answer::Call;
 use crate::reader::{describe, find, list, open, read_array, text};
 
@@ -51,6 +51,7 @@ fn block_calls(random: &mut Random, plan: &Plan, file: &[u8], block: usize, call
     let key = key(random, plan, block);
     calls.push(Call::Find { block, key: key.clone() });
     calls.push(Call::WholeNumber { block, key: key.clone() });
+    calls.push(Call::Real { block, key: real_key(random, plan, block, &key) });
     let key = if random.percent(50) { b"Title".to_vec() } else { key };
     let length = text(file, block, &key, ROOMY).map_or(5, |text| text.len());
     calls.push(Call::Text { block, key, room: room(random, length) });
@@ -93,6 +94,19 @@ fn key(random: &mut Random, plan: &Plan, block: usize) -> Vec<u8> {
         _ => random.pick(&KEYS).as_bytes().to_vec(),
     };
     dress::sought(random, &name)
+}
+
+/// Mostly a key whose value is the text of a real, one of the block's own if it has any; else this key.
+fn real_key(random: &mut Random, plan: &Plan, block: usize, key: &[u8]) -> Vec<u8> {
+    let own = plan.blocks.get(block);
+    let stands = |name: &&str| own.is_some_and(|b| b.place(name.as_bytes()).is_some());
+    let standing: Vec<&str> = REAL_KEYS.into_iter().filter(stands).collect();
+    let name = match random.below(10) {
+        0 | 1 => return key.to_vec(),
+        2..=7 if !standing.is_empty() => random.pick(&standing),
+        _ => random.pick(&REAL_KEYS),
+    };
+    dress::sought(random, name.as_bytes())
 }
 
 /// A span that a value has, or one at the file's end.

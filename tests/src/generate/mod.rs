@@ -9,6 +9,7 @@ pub mod mutate;
 pub mod origins;
 pub mod plan;
 pub mod random;
+pub mod reals;
 pub mod shapes;
 pub mod thorough;
 pub mod valid;

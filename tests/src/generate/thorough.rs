@@ -50,7 +50,7 @@ fn pixel_calls(file: &[u8], block: usize) -> Vec<Call> {
 fn keyword_calls(file: &[u8], block: usize, key: &[u8]) -> Vec<Call> {
     let length = text(file, block, key, ROOMY).map_or(1, |text| text.len());
     let key = || key.to_vec();
-    let mut calls = vec![Call::Find { block, key: key() }, Call::WholeNumber { block, key: key() }];
+    let mut calls = vec![Call::Find { block, key: key() }, Call::WholeNumber { block, key: key() }, Call::Real { block, key: key() }];
     calls.extend([0, length.saturating_sub(1), length, length + 9].map(|room| Call::Text { block, key: key(), room }));
     calls
 }

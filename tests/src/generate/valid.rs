@@ -3,7 +3,8 @@
 use super::dress;
 use super::plan::{BlockPlan, Plan, Statement, OWN_LENGTH};
 use super::random::Random;
-use super::words::{numeral, DEFAULT_TYPE, FIELDS, TYPES, WIDTHS};
+use super::reals;
+use super::words::{numeral, DEFAULT_TYPE, FIELDS, REAL_KEYS, TYPES, WIDTHS};
 
 /// A key and its value.
 type Field = (String, String);
@@ -173,6 +174,12 @@ fn add_fields(random: &mut Random, block: &mut BlockPlan, fields: &[Field]) {
         let number = random.next() as i64;
         let value = numeral(random, number);
         statements.push(statement(random, "Note", &value));
+    }
+    for key in REAL_KEYS {
+        if random.percent(30) {
+            let value = reals::text(random);
+            statements.push(statement(random, key, &value));
+        }
     }
     let mut late = shuffled(random, statements);
     if random.percent(10) && !late.is_empty() {

@@ -68,3 +68,6 @@ pub const KEYS: [&str; 24] = [
     "RasterOrientation", "DataValueOffset", "Title", "Size", "EDF_DataBlockID", "EDF_BinarySize", "EDF_HeaderSize",
     "EDF_DataBlocks", "EDF_BlockBoundary", "EDF_DataFormatVersion", "EDF_BinaryFileName", "Image", "HeaderID", "Note", "edf_", "edf",
 ];
+
+/// Keys whose values are texts of reals.
+pub const REAL_KEYS: [&str; 3] = ["Wavelength", "SampleDistance", "Rot_1"];

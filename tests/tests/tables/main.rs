@@ -1,8 +1,9 @@
-//! Tables of calls with the answers that 01 gives them, and 02 in its No. 1, worked out by hand: both sides of each rule. The second reader
-//! and the library must both answer so.
+//! Tables of calls with the answers that 01 gives them, and 02 in its No. 1 and 2, worked out by hand: both sides of each rule. The second
+//! reader and the library must both answer so.
 
 mod arrays;
 mod configurations;
 mod opening;
+mod reals;
 mod values;
 mod writing;
