@@ -1,18 +1,16 @@
 -- A text of the form is read: `numeralOf` gives what its pieces say.
-use mathlib.Core.Path.{_≡_, refl, sym, ap, _∙_, subst}
+use mathlib.Core.Path.{_≡_, refl, sym, _∙_}
 use mathlib.Core.Bool.{Bool}
-use mathlib.Core.List.{List, [], _∷_, _++_, append-assoc, append-nil}
+use mathlib.Core.List.{List, [], _++_, append-assoc, append-nil}
 use mathlib.Core.Option.{Option, none, some}
 use Prim.Native.Nat.{ℕ}
 use native.Mathlib.Omega.{arith}
 use lib.IntN.{ℤ, pos, _-ℤ_}
 use lib.ListN.{length}
 use Rattle.scan.specs.Byte.{ascii, same}
-use Rattle.scan.specs.Search.{firstFrom, is}
-use Rattle.text.specs.Number.{natural}
-use Rattle.lexical.specs.Whole.{Digits, IsWhole}
+use Rattle.scan.specs.Search.{is}
+use Rattle.lexical.specs.Whole.{Digits}
 use Rattle.lexical.proofs.WholeLaws.{natural-complete, whole-complete}
-use Rattle.reals.specs.Cut.{before, after}
 use Rattle.reals.specs.Form.{IsSign, IsDecimal, plain, pointed, IsExponent, given, IsMeasure, metres, degrees, radians, Pieces, Reading}
 use Rattle.reals.specs.Form as form
 use Rattle.reals.specs.Measure.{measureNamed}

@@ -1,20 +1,18 @@
 -- What is read has the form: `numeralOf` gives a numeral only of a text whose pieces say it.
 use mathlib.Core.Path.{_≡_, refl, sym, ap, _∙_, subst}
 use mathlib.Core.Bool.{Bool, true, false}
-use mathlib.Core.List.{List, [], _∷_, _++_, append-assoc, append-nil}
+use mathlib.Core.List.{List, [], _∷_, _++_, append-assoc}
 use mathlib.Core.Option.{Option, none, some, Option·map, Option·none-ne-some, Option·some-injective}
 use Prim.Native.Nat.{ℕ}
-use native.Mathlib.Omega.{arith}
 use borrow.Author.Tests.{eqb-true}
 use lib.Dec.{eqb}
 use lib.IntN.{ℤ, pos, _-ℤ_}
-use lib.ListN.{length, drop}
-use Rattle.scan.specs.Byte.{byte, ascii, same}
+use lib.ListN.{length}
+use Rattle.scan.specs.Byte.{ascii, same}
 use Rattle.scan.specs.Search.{firstFrom, is}
 use Rattle.scan.proofs.Cases.{by-test}
 use Rattle.scan.proofs.Decides.{same-decides, decided}
-use Rattle.text.specs.Number.{natural, wholeNumber}
-use Rattle.lexical.specs.Whole.{Digits}
+use Rattle.text.specs.Number.{natural}
 use Rattle.lexical.proofs.WholeLaws.{natural-sound, whole-sound}
 use Rattle.reals.specs.Cut.{before, after, orEmpty}
 use Rattle.reals.specs.Form.{IsSign, IsDecimal, plain, pointed, IsExponent, given, IsMeasure, metres, degrees, radians, Pieces, IsNumeral}

@@ -1,20 +1,20 @@
--- The main theorems about texts of real numbers: `realOf` reads just those that have the form and lie inside the bounds, each error is
--- given exactly in its case, and a text has one reading.
+-- The main theorems about texts of real numbers: `realOf` reads just those that have the form and lie inside the bounds, each error is.
+-- Given exactly in its case, and a text has one reading.
 use mathlib.Core.Path.{_≡_, refl, sym, ap, _∙_, subst}
-use mathlib.Core.Bool.{Bool, true, false, _&&_}
-use mathlib.Core.List.{List, _++_, append-assoc}
+use mathlib.Core.Bool.{true}
+use mathlib.Core.List.{List}
 use mathlib.Core.Logic.{_↔_, _⊎_, inl, inr}
-use mathlib.Core.Option.{Option, none, some, Option·some-injective}
+use mathlib.Core.Option.{some, Option·some-injective}
 use Prim.Native.Nat.{ℕ}
 use native.Mathlib.Omega.{arith}
-use borrow.Author.Tests.{le-leb, leb-true, lt-leb}
+use borrow.Author.Tests.{le-leb, leb-true}
 use lib.Dec.{leb}
 use lib.IntN.{natAbs}
 use Rattle.scan.specs.Outcome.{Outcome, ok, failed, refused, errorAt}
 use Rattle.scan.specs.declared.Error.{Error}
 use Rattle.scan.proofs.Cases.{by-test, by-option, both-true, clash, none-some, ok-failed}
 use Rattle.scaling.specs.Limits.{coefficientLimit, powerLimit}
-use Rattle.reals.specs.Form.{Pieces, Reading, IsNumeral, InBounds, IsReal, IsOutOfBounds}
+use Rattle.reals.specs.Form.{IsNumeral, InBounds, IsReal, IsOutOfBounds}
 use Rattle.reals.specs.Numeral.{Numeral, numeralOf}
 use Rattle.reals.specs.Real.{isBounded, valueIn, judged, realOf}
 use Rattle.reals.specs.declared.Real.{Real}
@@ -78,7 +78,7 @@ from-real {l} h = rw (complete (h .form .1), bounded-in (h .bounds)) (ap ok (sym
 pub reads : (l : List ℕ) {r : Real} → (realOf l ≡ ok r) ↔ IsReal l r
 reads l = (to-real (is-judged l), from-real)
 
--- so that it stands for one at most.
+-- So that it stands for one at most.
 pub one-real : {l : List ℕ} {r q : Real} → IsReal l r → IsReal l q → r ≡ q
 one-real {r = r} {q = q} a b = let e : ok r ≡ ok q = sym (from-real a) ∙ from-real b in cc
 
@@ -110,7 +110,7 @@ from-outside (formless h) n = absurd (h (n .numeral) (n .form))
 pub refuses-bounds : (l : List ℕ) → (realOf l ≡ refused 27 0) ↔ IsOutOfBounds l
 refuses-bounds l = (to-outside (is-judged l), from-outside (is-judged l))
 
--- and no other.
+-- And no other.
 pub no-other : (l : List ℕ) {e : Error} → realOf l ≡ failed e → (e ≡ errorAt 18 0) ⊎ (e ≡ errorAt 27 0)
 no-other l {e} = go (is-judged l)
   where

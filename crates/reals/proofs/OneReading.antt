@@ -1,7 +1,7 @@
 -- A text has one reading: any two have the same pieces.
 use mathlib.Core.Path.{_≡_, refl, sym, ap, _∙_}
 use mathlib.Core.Bool.{Bool}
-use mathlib.Core.List.{List, [], _∷_, _++_, append-assoc, tail-eq-of-cons-eq, head-eq-of-cons-eq}
+use mathlib.Core.List.{List, _∷_, _++_, tail-eq-of-cons-eq, head-eq-of-cons-eq}
 use mathlib.Core.Option.{Option}
 use Prim.Native.Nat.{ℕ}
 use native.Mathlib.Omega.{arith}
@@ -11,7 +11,7 @@ use Rattle.scan.specs.Search.{firstFrom, is}
 use Rattle.scan.proofs.Cases.{clash}
 use Rattle.text.proofs.Parts.{each-head}
 use Rattle.reals.specs.Cut.{before, after}
-use Rattle.reals.specs.Form.{IsSign, IsDecimal, Pieces, Reading}
+use Rattle.reals.specs.Form.{IsSign, Pieces, Reading}
 use Rattle.reals.specs.Form as form
 use Rattle.reals.specs.Numeral.{Numeral}
 use Rattle.reals.proofs.FormComplete.{exponent-tail, measure-tail, digits-plus-free, digits-minus-free, front-free, measure-front-free, cut}

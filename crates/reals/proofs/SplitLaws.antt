@@ -2,14 +2,13 @@
 use mathlib.Core.Path.{_≡_, refl, sym, ap, _∙_}
 use mathlib.Core.List.{List, [], _∷_, _++_, append-nil}
 use mathlib.Core.Option.{Option, none, some}
-use Prim.Native.Nat.{ℕ, suc, _+_, _<_}
+use Prim.Native.Nat.{ℕ, _+_}
 use native.Mathlib.Numerals.{add-one}
 use native.Mathlib.Omega.{arith}
 use borrow.Author.Tests.{eqb-true, eq-eqb}
-use lib.ListN.{length, take, drop, length-append, List·getD-append}
+use lib.ListN.{length, drop, length-append, List·getD-append}
 use lib.Seq.{take-append-seam, drop-append-seam, getD-append-seam, drop-drop, split-at}
 use Rattle.scan.specs.Byte.{byte}
-use Rattle.scan.specs.First.{First, Without}
 use Rattle.scan.specs.Search.{firstFrom, is}
 use Rattle.scan.specs.declared.Found.{Found}
 use Rattle.scan.specs.declared.Found.the-variants.{At, Nothing}

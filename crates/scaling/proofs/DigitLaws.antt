@@ -1,8 +1,8 @@
 -- Digits read one after another, with all numbers above the limit as one.
-use mathlib.Core.Path.{_≡_, refl, sym, ap, _∙_, subst}
+use mathlib.Core.Path.{_≡_, refl, sym, ap, _∙_}
 use mathlib.Core.List.{List, [], _∷_, _++_}
 use mathlib.Core.Option.{Option, none, some}
-use Prim.Native.Nat.{ℕ, zero, suc, _+_, _-_, _*_, _^_, _≤_, _<_}
+use Prim.Native.Nat.{ℕ, _+_, _-_, _*_, _≤_, _<_}
 use native.Mathlib.Omega.{arith}
 use borrow.Author.Tests.{le-leb, lt-leb, leb-true, leb-false}
 use lib.Dec.{leb}
@@ -22,14 +22,16 @@ pub cap-large : (n : ℕ) → coefficientLimit < n → cap n ≡ coefficientLimi
 unfolding cap
 cap-large n h = rw (lt-leb n coefficientLimit h)
 
--- a number as the loop keeps it
+-- a number as the loop keeps it.
 pub cap-kept : (n : ℕ) → n ≤ coefficientLimit + 1 → cap n ≡ n
-cap-kept n h = by-test (leb n coefficientLimit) (λ e. cap-small n (leb-true n coefficientLimit e)) (λ e. let l = leb-false n coefficientLimit e in cap-large n l ∙ omega arith)
+cap-kept n h = by-test (leb n coefficientLimit) (λ e. cap-small n (leb-true n coefficientLimit e))
+    (λ e. let l = leb-false n coefficientLimit e in cap-large n l ∙ omega arith)
 
 pub cap-le : (n : ℕ) → cap n ≤ coefficientLimit + 1
-cap-le n = by-test (leb n coefficientLimit) (λ e. omega (arith, leb-true n coefficientLimit e, cap-small n (leb-true n coefficientLimit e))) (λ e. omega (arith, cap-large n (leb-false n coefficientLimit e)))
+cap-le n = by-test (leb n coefficientLimit) (λ e. omega (arith, leb-true n coefficientLimit e, cap-small n (leb-true n coefficientLimit e)))
+    (λ e. omega (arith, cap-large n (leb-false n coefficientLimit e)))
 
--- above the limit a further digit tells no two numbers apart
+-- Above the limit a further digit tells no two numbers apart.
 alike : (a b : ℕ) (s : List ℕ) → coefficientLimit < a → coefficientLimit < b → capped (digitsFrom a s) ≡ capped (digitsFrom b s)
 unfolding digitsFrom
 alike a b [] h g = ap some (cap-large a h ∙ sym (cap-large b g))
@@ -42,7 +44,8 @@ more-cap n s =
     (λ e. let l = leb-false n coefficientLimit e in alike (cap n) n s (omega (arith, cap-large n l)) l)
 
 module _ (s : List ℕ) (i v : ℕ) (h : i < length s) where
-  pub turn : (n : ℕ) → 48 ≤ getD s i 0 → getD s i 0 ≤ 57 → n ≡ cap (v * 10 + (getD s i 0 - 48)) → capped (digitsFrom n (drop (i + 1) s)) ≡ capped (digitsFrom v (drop i s))
+  pub turn : (n : ℕ) → 48 ≤ getD s i 0 → getD s i 0 ≤ 57 → n ≡ cap (v * 10 + (getD s i 0 - 48))
+      → capped (digitsFrom n (drop (i + 1) s)) ≡ capped (digitsFrom v (drop i s))
   turn n p q e =
       ap (λ (m : ℕ). capped (digitsFrom m (drop (i + 1) s))) e
       ∙ more-cap (v * 10 + (getD s i 0 - 48)) (drop (i + 1) s)
@@ -60,7 +63,7 @@ pub ended : (s : List ℕ) (i v : ℕ) → i ≡ length s → v ≤ coefficientL
 unfolding digitsFrom
 ended s i v e h = rw (e, drop-length s) (ap some (sym (cap-kept v h)))
 
--- ---- digits in two parts
+-- ---- Digits in two parts
 
 abbrev pub furtherDigits : Option ℕ → List ℕ → Option ℕ
 furtherDigits none s = none
@@ -71,7 +74,7 @@ unfolding digitsFrom
 joined a [] t = refl
 joined a (x ∷ s) t = let later = joined (a * 10 + (x - 48)) s t in by-test (digit x) (λ e. rw e later) (λ e. rw e)
 
--- one digit at least
+-- One digit at least.
 pub some-digit : (s t : List ℕ) → (length s ≡ 0 → length t ≡ 0 → ⊥) → natural (s ++ t) ≡ digitsFrom 0 (s ++ t)
 unfolding natural
 some-digit [] [] h = absurd (h refl refl)
@@ -84,7 +87,7 @@ no-digit [] [] h g = refl
 no-digit [] (x ∷ t) h g = absurd (omega arith)
 no-digit (x ∷ s) t h g = absurd (omega arith)
 
--- what the first part came to
+-- What the first part came to.
 pub kept-le : (n : ℕ) (o : Option ℕ) → some n ≡ capped o → n ≤ coefficientLimit + 1
 kept-le n none e = absurd (none-some (sym e))
 kept-le n (some v) e = let d : n ≡ cap v = cc in omega (arith, d, cap-le v)

@@ -1,28 +1,27 @@
 -- `round` gives a nearest value of the format.
-use mathlib.Core.Path.{_≡_, refl, sym, ap, _∙_, subst}
-use mathlib.Core.Bool.{Bool, true, false, not, _&&_}
+use mathlib.Core.Path.{_≡_, sym, ap, _∙_, subst}
+use mathlib.Core.Bool.{Bool, false, not, _&&_}
 use Prim.Native.Nat.{ℕ, zero, suc, _+_, _-_, _*_, _/_, _%_, _^_, _≤_, _<_, compare, Ordering, Ordering·lt, Ordering·eq, Ordering·gt}
-use native.Mathlib.Nat.{le-refl, le-trans, le-of-eq, le-of-lt, lt-of-le-of-lt, lt-of-lt-of-le, not-le-of-lt, mul-one, one-mul, zero-mul, suc-mul, mul-comm, mul-assoc, mul-left-comm, mul-right-comm, mul-pos, mul-sub, add-mul, mul-add, mul-le-mul-right, mul-lt-mul-of-pos-right, le-of-mul-le-mul-right, div-add-mod', mod-lt, le-div-iff-mul-le}
+use native.Mathlib.Nat.{le-trans, le-of-eq, le-of-lt, not-le-of-lt, mul-one, zero-mul, suc-mul, mul-comm, mul-assoc, mul-left-comm, mul-right-comm, mul-pos, mul-sub, add-mul, mul-le-mul-right, le-of-mul-le-mul-right, div-add-mod', mod-lt, le-div-iff-mul-le}
 use native.Mathlib.Omega.{arith}
 use mathlib.Core.Logic.{_⊎_, inl, inr}
 use lib.Dec.{T, isLe, isEq, eqb, leb, ltb, leb→le, nleb→lt, ltb→lt, eqb→eq, eqb-refl}
 use lib.Arith.{lt-of-le-ne}
 use lib.IntN.{ℤ, pos, negsuc}
 use lib.Pow.{pow-add, pow-pos, pow-mono, pow-lt}
-use lib.Ieee.{Float, nan, inf, fin, Format, prec, emax, low, up, down, size, nearest, units, round, fits}
+use lib.Ieee.{Float, nan, inf, fin, Format, prec, emax, low, up, down, size, nearest, round, fits}
 use lib.Ieee.Digits.{size-reaches, back}
-use lib.Ieee.Exact.{HasValue}
-use lib.Ieee.Fits.{and-l, and-r, two, two-le-pos, round-is}
+use lib.Ieee.Fits.{and-l, and-r, two, two-le-pos}
 use lib.Ieee.Nearest.{closest}
 use lib.Ieee.Order.{drop, kept}
-use lib.Ieee.Positive.{num, den, den-pos, value→cross}
+use lib.Ieee.Positive.{num, den, value→cross}
 use lib.Ieee.Scale.{grid, overflow, finite, round-val}
 use Rattle.scan.proofs.Cases.{by-order}
 use Rattle.scaling.specs.Nearest.{distance, deviation, Nearest}
 
--- ---- the nearest multiple
+-- ---- The nearest multiple
 
--- what `compare` says
+-- What `compare` says.
 abbrev pub Cmp : Ordering → ℕ → ℕ → Type 0
 Cmp Ordering·lt a b = a < b
 Cmp Ordering·eq a b = a ≡ b
@@ -36,7 +35,7 @@ cmp a b = go (compare a b) (leb→le a b) (nleb→lt a b) (eqb→eq a b) (λ (e 
     go Ordering·eq h k e n = e tt
     go Ordering·gt h k e n = k tt
 
--- n = Q + r lies between Q and Q + u, and Z does not: Q is as near as Z if r is at most half of u, and Q + u if it is at least half
+-- n = Q + r lies between Q and Q + u, and Z does not: Q is as near as Z if r is at most half of u, and Q + u if it is at least half.
 lower : (Q r u n Z : ℕ) → Q + r ≡ n → r * 2 ≤ u → r < u → (Z ≤ Q) ⊎ (Q + u ≤ Z) → distance Q n ≤ distance Z n
 lower Q r u n Z e h l (inl a) = omega arith
 lower Q r u n Z e h l (inr a) = omega arith
@@ -56,16 +55,18 @@ chosen q r u n z Ordering·lt c e l = lower (q * u) r u n (z * u) e (le-of-lt c)
 chosen q r u n z Ordering·eq c e l =
     elim (even-or q) [
       | inl d ↦ subst (λ (w : ℕ). distance (w * u) n ≤ distance (z * u) n) (sym d) (lower (q * u) r u n (z * u) e (le-of-eq c) l (outside q u z))
-      | inr d ↦ subst (λ (w : ℕ). distance w n ≤ distance (z * u) n) (sym (ap (λ (w : ℕ). w * u) d ∙ suc-mul q u)) (upper (q * u) r u n (z * u) e (le-of-eq (sym c)) l (outside q u z))
+      | inr d ↦ subst (λ (w : ℕ). distance w n ≤ distance (z * u) n) (sym (ap (λ (w : ℕ). w * u) d ∙ suc-mul q u))
+          (upper (q * u) r u n (z * u) e (le-of-eq (sym c)) l (outside q u z))
     ]
-chosen q r u n z Ordering·gt c e l = subst (λ (w : ℕ). distance w n ≤ distance (z * u) n) (sym (suc-mul q u)) (upper (q * u) r u n (z * u) e (le-of-lt c) l (outside q u z))
+chosen q r u n z Ordering·gt c e l = subst (λ (w : ℕ). distance w n ≤ distance (z * u) n) (sym (suc-mul q u))
+    (upper (q * u) r u n (z * u) e (le-of-lt c) l (outside q u z))
 
 pub closest-near : (n u z : ℕ) → 0 < u → distance (closest n u * u) n ≤ distance (z * u) n
 closest-near n u z U = chosen (n / u) (n % u) u n z (compare (n % u * 2) u) (cmp (n % u * 2) u) (div-add-mod' n u) (mod-lt n U)
 
--- ---- in units of the format's smallest value, 2 ^ -low: the fraction is n / b, and a value is q * 2 ^ j for a q below 2 ^ prec
+-- ---- In units of the format's smallest value, 2 ^ -low: the fraction is n / b, and a value is q * 2 ^ j for a q below 2 ^ prec
 
--- How far Z units lie from n / b, times b
+-- How far Z units lie from n / b, times b.
 abbrev off : ℕ → ℕ → ℕ → ℕ
 off n b Z = distance (Z * b) n
 
@@ -76,7 +77,7 @@ module _ (p n b : ℕ) (P : 0 < p) (B : 0 < b) where
   abbrev G : ℕ
   G = kept p n b * 2 ^ k
 
-  -- a multiple of 2 ^ k
+  -- a multiple of 2 ^ k.
   multiple : (z : ℕ) → off n b G ≤ off n b (z * 2 ^ k)
   multiple z =
       subst (λ (w : ℕ). distance w n ≤ off n b (z * 2 ^ k)) (turn (kept p n b))
@@ -85,7 +86,7 @@ module _ (p n b : ℕ) (P : 0 < p) (B : 0 < b) where
       turn : (w : ℕ) → w * (b * 2 ^ k) ≡ w * 2 ^ k * b
       turn w = simp (mul-assoc, mul-comm, mul-left-comm)
 
-  -- a power of two that is a multiple of 2 ^ k and lies below the fraction, and above all values with a smaller last digit
+  -- a power of two that is a multiple of 2 ^ k and lies below the fraction, and above all values with a smaller last digit.
   abbrev W : ℕ
   W = 2 ^ (p - 1) * 2 ^ k
 
@@ -111,7 +112,9 @@ module _ (p n b : ℕ) (P : 0 < p) (B : 0 < b) where
   pub value : (q j : ℕ) → q < 2 ^ p → off n b G ≤ off n b (q * 2 ^ j)
   value q j h =
       by-order k j
-      (λ l. subst (λ (w : ℕ). off n b G ≤ off n b w) (mul-assoc q (2 ^ (j - k)) (2 ^ k) ∙ ap (λ (w : ℕ). q * w) (sym (pow-add 2 (j - k) k) ∙ ap (λ (w : ℕ). 2 ^ w) (back j k l))) (multiple (q * 2 ^ (j - k))))
+      (λ l. subst (λ (w : ℕ). off n b G ≤ off n b w)
+      (mul-assoc q (2 ^ (j - k)) (2 ^ k) ∙ ap (λ (w : ℕ). q * w) (sym (pow-add 2 (j - k) k) ∙ ap (λ (w : ℕ). 2 ^ w) (back j k l)))
+      (multiple (q * 2 ^ (j - k))))
       (λ l. le-trans (multiple (2 ^ (p - 1))) (below (q * 2 ^ j) (W-high q j h l) (W-low (some j k l))))
     where
       some : (j k : ℕ) → j < k → 0 < k
@@ -131,7 +134,8 @@ module _ (f : Format) (s : Bool) (m : ℕ) (e : ℤ) (t : T (fits f (fin s (suc 
   digits = and-l (eqb (suc m % 2) 1 && ltb (suc m) (2 ^ prec f) && leb (down e) (2 ^ low f)) (ltb (suc m * up e) (2 ^ suc (emax f) * down e)) t
 
   digits-few : suc m < 2 ^ prec f
-  digits-few = ltb→lt (suc m) (2 ^ prec f) (and-r (eqb (suc m % 2) 1) (ltb (suc m) (2 ^ prec f)) (and-l (eqb (suc m % 2) 1 && ltb (suc m) (2 ^ prec f)) (leb (down e) (2 ^ low f)) digits))
+  digits-few = ltb→lt (suc m) (2 ^ prec f)
+      (and-r (eqb (suc m % 2) 1) (ltb (suc m) (2 ^ prec f)) (and-l (eqb (suc m % 2) 1 && ltb (suc m) (2 ^ prec f)) (leb (down e) (2 ^ low f)) digits))
 
   not-low : down e ≤ 2 ^ low f
   not-low = leb→le (down e) (2 ^ low f) (and-r (eqb (suc m % 2) 1 && ltb (suc m) (2 ^ prec f)) (leb (down e) (2 ^ low f)) digits)
@@ -157,10 +161,13 @@ units-of f (fin s (suc m) (negsuc i)) t u =
       few = digits-few f s m (negsuc i) t;
       is =
           ap (λ (w : ℕ). w * 2 ^ low f) (mul-one (suc m))
-          ∙ sym (mul-assoc (suc m) (2 ^ (low f - suc i)) (2 ^ suc i) ∙ ap (λ (w : ℕ). suc m * w) (sym (pow-add 2 (low f - suc i) (suc i)) ∙ ap (λ (w : ℕ). 2 ^ w) (back (low f) (suc i) (under (suc i) (low f) (not-low f s m (negsuc i) t)))));
+          ∙ sym (mul-assoc (suc m) (2 ^ (low f - suc i)) (2 ^ suc i)
+          ∙ ap (λ (w : ℕ). suc m * w)
+          (sym (pow-add 2 (low f - suc i) (suc i))
+          ∙ ap (λ (w : ℕ). 2 ^ w) (back (low f) (suc i) (under (suc i) (low f) (not-low f s m (negsuc i) t)))));
     }
 
--- ---- back from units
+-- ---- Back from units
 
 distance-mul : (x y c : ℕ) → distance x y * c ≡ distance (x * c) (y * c)
 distance-mul x y c = add-mul (x - y) (y - x) c ∙ ap (λ (w : ℕ). w + (y - x) * c) (less x y) ∙ ap (λ (w : ℕ). x * c - y * c + w) (less y x)
@@ -175,18 +182,20 @@ deviation-units n d L Z a b e =
     ∙ ap (λ (w : ℕ). distance (Z * b * d) w) (mul-right-comm a d L)
     ∙ sym (distance-mul (Z * b) (a * L) d)
 
--- the rounded value is a nearest one, if it is no infinity
+-- The rounded value is a nearest one, if it is no infinity.
 pub round-near : (f : Format) (a b : ℕ) → 0 < b → grid f a b < overflow f → Nearest f (round f false a b) a b
 round-near f a b B h y t u =
     let L = 2 ^ low f in
     let x = round f false a b in
     let U = units-of f y t u in
     let Y = U .q * 2 ^ U .j in
-    let fx : deviation x a b * L ≡ off (a * L) b (grid f a b) * den x = deviation-units (num x) (den x) L (grid f a b) a b (value→cross x (grid f a b) L (round-val f a b h)) in
+    let fx : deviation x a b * L ≡ off (a * L) b (grid f a b) * den x = deviation-units (num x) (den x) L (grid f a b) a b
+    (value→cross x (grid f a b) L (round-val f a b h)) in
     let fy : deviation y a b * L ≡ off (a * L) b Y * den y = deviation-units (num y) (den y) L Y a b (U .is) in
     let le : off (a * L) b (grid f a b) ≤ off (a * L) b Y = value (prec f) (a * L) b (two-le-pos (prec f) (two f)) B (U .q) (U .j) (U .few) in
     le-of-mul-le-mul-right
-    (le-trans (le-of-eq (mul-right-comm (deviation x a b) (den y) L ∙ ap (λ (w : ℕ). w * den y) fx ∙ mul-right-comm (off (a * L) b (grid f a b)) (den x) (den y)))
+    (le-trans (le-of-eq (mul-right-comm (deviation x a b) (den y) L ∙ ap (λ (w : ℕ). w * den y) fx
+    ∙ mul-right-comm (off (a * L) b (grid f a b)) (den x) (den y)))
     (le-trans (mul-le-mul-right (den x) (mul-le-mul-right (den y) le))
     (le-of-eq (sym (mul-right-comm (deviation y a b) (den x) L ∙ ap (λ (w : ℕ). w * den x) fy)))))
     (pow-pos (low f))

@@ -1,6 +1,6 @@
 -- The power of ten that is left.
-use mathlib.Core.Path.{_≡_, refl, sym, ap, _∙_, subst}
-use mathlib.Core.Option.{Option, none, some}
+use mathlib.Core.Path.{_≡_, ap, _∙_}
+use mathlib.Core.Option.{none, some}
 use Prim.Native.Nat.{ℕ, zero, suc, _+_, _-_, _≤_, _<_}
 use native.Mathlib.Omega.{arith}
 use borrow.Author.Tests.{le-leb, lt-leb, le-ltb, lt-ltb}
@@ -28,7 +28,7 @@ pub lower-is : (n m : ℕ) → negsuc (n + m) ≡ negsuc n -ℤ pos m
 lower-is n zero = rw (lt-ltb 0 (suc n) (omega arith)) (ap negsuc (omega arith))
 lower-is n (suc m) = ap negsuc (omega arith)
 
--- ---- what the code answers
+-- ---- What the code answers
 
 module _ (n m : ℕ) where
   pub up-in : m ≤ n → n - m ≤ powerLimit → some (pos (n - m)) ≡ bounded (pos n -ℤ pos m)

@@ -1,22 +1,20 @@
 -- Laws of rounding once: products and quotients of values held exactly, the sign, and where nothing is lost.
 use mathlib.Core.Path.{_≡_, refl, sym, ap, _∙_, subst}
 use mathlib.Core.Bool.{Bool, true, false, cond, true≢false}
-use Prim.Native.Nat.{ℕ, zero, suc, _+_, _*_, _^_, _≤_, _<_, compare}
+use Prim.Native.Nat.{ℕ, zero, suc, _+_, _*_, _^_, _<_}
 use native.Mathlib.Nat.{mul-one, mul-comm, mul-assoc, mul-left-comm, mul-mul-mul-comm, mul-pos, ne-of-gt, zero-lt-suc, one-le-pow}
 use native.Mathlib.Numerals.{add-one}
 use borrow.Author.Tests.{ne-eqb}
-use lib.IntN.{ℤ, pos, negsuc}
-use lib.Dec.{T, ltb, eqb, eqb→eq}
+use lib.IntN.{ℤ}
+use lib.Dec.{ltb}
 use lib.Pow.{pow-pos}
-use lib.Ieee.{Float, nan, inf, fin, Format, binary64, prec, emax, low, up, down, nearest, odd, units, round, neg, mul, div}
-use lib.Ieee.Exact.{HasValue}
-use lib.Ieee.Fits.{up-pos, down-pos, round-is, core}
+use lib.Ieee.{Float, inf, fin, Format, binary64, prec, emax, low, up, down, odd, units, round, neg, mul, div}
+use lib.Ieee.Fits.{up-pos, down-pos, round-is}
 use lib.Ieee.Positive.{first-pos}
 use lib.Ieee.Scale.{round-same}
-use lib.Ieee.Back.{round-whole}
 use Rattle.scaling.specs.Scale.{Holds}
 
--- ---- the sign
+-- ---- The sign
 
 neg-odd : (d q k l : ℕ) → neg (odd d false q k l) ≡ odd d true q k l
 unfolding neg odd
@@ -41,9 +39,9 @@ neg-units f q k =
 pub neg-round : (f : Format) (a b : ℕ) → neg (round f false a b) ≡ round f true a b
 neg-round f a b = ap neg (round-is f false a b) ∙ neg-units f _ _ ∙ sym (round-is f true a b)
 
--- ---- products and quotients
+-- ---- Products and quotients
 
--- what is known of a value: m * 2^e is the whole number a
+-- What is known of a value: m * 2^e is the whole number a.
 flat : (m : ℕ) (e : ℤ) (a : ℕ) → m * up e * 1 ≡ a * down e → m * up e ≡ a * down e
 flat m e a p = sym (mul-one (m * up e)) ∙ p
 
@@ -56,7 +54,7 @@ mul-whole f (fin false m e) (fin false n d) a b p q =
     round-same f false (m * up e * (n * up d)) (down e * down d) (a * b) 1 (mul-pos (down-pos e) (down-pos d)) (pow-pos 0)
     (mul-one (m * up e * (n * up d)) ∙ rw (flat m e a (p .1), flat n d b (q .1)) (mul-mul-mul-comm a (down e) b (down d)))
 
--- a value above zero has digits
+-- a value above zero has digits.
 some : (n : ℕ) (d : ℤ) (b : ℕ) → 0 < b → n * up d ≡ b * down d → 0 < n
 some n d b B q = first-pos n (up d) (subst (λ (z : ℕ). 0 < z) (sym q) (mul-pos B (down-pos d)))
 
@@ -73,11 +71,11 @@ div-whole f (fin false m e) (fin false n d) a b B p q =
     (round-same f false (m * up e * down d) (n * up d * down e) a b (mul-pos (mul-pos N (up-pos d)) (down-pos e)) B
     (rw (u, v) (simp (mul-assoc, mul-comm, mul-left-comm))))
 
--- ---- powers of ten
+-- ---- Powers of ten
 
 pub ten-pos : (k : ℕ) → 0 < 10 ^ k
 ten-pos k = one-le-pow k 10 (zero-lt-suc 9)
 
--- what `over` says of a power below zero, as the definition has it
+-- What `over` says of a power below zero, as the definition has it.
 pub over-is : (n k : ℕ) → round binary64 false n (10 ^ (k + 1)) ≡ round binary64 false (n * 1) (10 ^ suc k)
 over-is n k = rw (add-one k, mul-one n)

@@ -1,17 +1,16 @@
--- What `scaled` gives, over whole numbers: the number itself where that is a whole number up to 2^53, a zero with its sign, always a finite number, and a 64-bit float that none is nearer than.
---
+-- What `scaled` gives, over whole numbers: the number itself where that is a whole number up to the limit, a zero with its sign, always a
+-- finite number, a 64-bit float that none is nearer than, and at a tie the even one.
 use mathlib.Core.Path.{_≡_, refl, sym, ap, _∙_, subst}
 use mathlib.Core.Bool.{Bool, true, false}
-use Prim.Native.Nat.{ℕ, zero, suc, _+_, _-_, _*_, _/_, _%_, _^_, _≤_, _<_, compare}
-use native.Mathlib.Nat.{le-refl, le-trans, le-of-eq, le-of-lt, lt-of-le-of-lt, lt-of-lt-of-le, mul-one, one-mul, zero-mul, zero-lt-suc, mul-le-mul, mul-le-mul-right, mul-lt-mul-of-pos-right, mul-right-comm, div-lt-iff-lt-mul, div-div-eq-div-mul, pow-le-pow-right, le-mul-of-pos-right}
+use Prim.Native.Nat.{ℕ, suc, _+_, _-_, _*_, _/_, _%_, _^_, _≤_, _<_, compare}
+use native.Mathlib.Nat.{le-trans, le-of-eq, lt-of-le-of-lt, lt-of-lt-of-le, mul-one, zero-mul, zero-lt-suc, mul-le-mul, mul-le-mul-right, mul-lt-mul-of-pos-right, mul-right-comm, div-lt-iff-lt-mul, div-div-eq-div-mul, pow-le-pow-right, le-mul-of-pos-right}
 use native.Mathlib.Omega.{arith}
-use lib.Dec.{T, lit≤, lit<}
+use lib.Dec.{T, lit<}
 use lib.IntN.{ℤ, pos, negsuc, natAbs}
 use lib.Pow.{pow-add, pow-pos, pow-mono, pow-lt}
-use lib.Ieee.{Float, nan, inf, fin, Format, binary64, prec, emax, low, size, round, nearest, neg}
+use lib.Ieee.{Float, nan, inf, fin, Format, binary64, prec, emax, low, size, round, neg}
 use lib.Ieee.Digits.{size-le}
 use lib.Ieee.Fits.{nearest-le, kept-lt}
-use lib.Ieee.Nearest.{closest}
 use lib.Ieee.Order.{drop, kept}
 use lib.Ieee.Exact.{HasValue}
 use lib.Ieee.Positive.{num, den}
@@ -24,7 +23,7 @@ use Rattle.scaling.proofs.NearestLaws.{round-near}
 use Rattle.scaling.proofs.RoundingLaws.{neg-round, ten-pos}
 use Rattle.scaling.proofs.TieLaws.{tie-even}
 
--- ---- the sign put on last is the sign that is rounded with
+-- ---- The sign put on last is the sign that is rounded with
 
 pub signed-round : (f : Format) (s : Bool) (a b : ℕ) → withSign s (round f false a b) ≡ round f s a b
 signed-round f true a b = neg-round f a b
@@ -38,15 +37,16 @@ pub down-some : (p : ℤ) → 0 < denominator p
 down-some (pos k) = zero-lt-suc 0
 down-some (negsuc k) = ten-pos (suc k)
 
--- ---- the exact case: c * 10^p is the whole number n, up to 2^53
+-- ---- The exact case: c * 10^p is the whole number n, up to 2^53
 
 pub exact : (s : Bool) (c : ℕ) (p : ℤ) (n : ℕ) → n ≤ coefficientLimit → c * numerator p ≡ n * denominator p → Holds (scaled s c p) s n
 exact s c p n h e =
     subst (λ (x : Float). Holds x s n)
-    (sym (scaled-round s c p ∙ round-same binary64 s (c * numerator p) (denominator p) n 1 (down-some p) (zero-lt-suc 0) (mul-one (c * numerator p) ∙ e)))
+    (sym (scaled-round s c p
+    ∙ round-same binary64 s (c * numerator p) (denominator p) n 1 (down-some p) (zero-lt-suc 0) (mul-one (c * numerator p) ∙ e)))
     (round-whole binary64 s n h)
 
--- ---- zero keeps its sign
+-- ---- Zero keeps its sign
 
 zero-is : (s : Bool) → round binary64 s 0 1 ≡ fin s 0 (pos 0)
 unfolding round
@@ -55,12 +55,13 @@ zero-is s = refl
 pub zeros : (s : Bool) (p : ℤ) → scaled s 0 p ≡ fin s 0 (pos 0)
 zeros s p =
     scaled-round s 0 p
-    ∙ round-same binary64 s (0 * numerator p) (denominator p) 0 1 (down-some p) (zero-lt-suc 0) (mul-one (0 * numerator p) ∙ zero-mul (numerator p) ∙ sym (zero-mul (denominator p)))
+    ∙ round-same binary64 s (0 * numerator p) (denominator p) 0 1 (down-some p) (zero-lt-suc 0)
+    (mul-one (0 * numerator p) ∙ zero-mul (numerator p) ∙ sym (zero-mul (denominator p)))
     ∙ zero-is s
 
--- ---- no infinity, no NaN
+-- ---- No infinity, no NaN
 
--- kept is at most 2^53
+-- What is kept has at most the digits of the format.
 kept-most : (p n d : ℕ) → kept p n d ≤ 2 ^ p
 kept-most p n d =
     let k = drop p n d in
@@ -73,7 +74,7 @@ fewer z p b l h = omega arith
 enough : (p b l e : ℕ) → p + b < e → p + b + l < l + e
 enough p b l e h = omega arith
 
--- a fraction below 2^b, with room above that for the digits kept
+-- a fraction below 2^b, with room above that for the digits kept.
 under : (f : Format) (b a d : ℕ) → 0 < d → a < 2 ^ b * d → prec f + b < suc (emax f) → grid f a d < overflow f
 under f b a d D h room =
     let p = prec f in
@@ -81,7 +82,8 @@ under f b a d D h room =
     let n = a * 2 ^ l in
     let small : n / d < 2 ^ (b + l) =
     div-lt-iff-lt-mul D .1
-    (lt-of-lt-of-le (mul-lt-mul-of-pos-right h (pow-pos l)) (le-of-eq (mul-right-comm (2 ^ b) d (2 ^ l) ∙ ap (λ (x : ℕ). x * d) (sym (pow-add 2 b l))))) in
+    (lt-of-lt-of-le (mul-lt-mul-of-pos-right h (pow-pos l))
+    (le-of-eq (mul-right-comm (2 ^ b) d (2 ^ l) ∙ ap (λ (x : ℕ). x * d) (sym (pow-add 2 b l))))) in
     lt-of-le-of-lt (mul-le-mul-right (2 ^ drop p n d) (kept-most p n d))
     (lt-of-le-of-lt (le-of-eq (sym (pow-add 2 p (drop p n d))))
     (lt-of-le-of-lt (pow-mono (fewer (size (n / d)) p b l (size-le (n / d) (b + l) small))) (pow-lt (enough p b l (suc (emax f)) room))))
@@ -101,16 +103,19 @@ finite-sign true (fin t m e) h = tt
 -- 2^53 * 10^22 is below 2^127
 bounded : (c : ℕ) (p : ℤ) → c ≤ coefficientLimit → natAbs p ≤ powerLimit → c * numerator p < 2 ^ 127 * denominator p
 bounded c (pos k) h g =
-    lt-of-le-of-lt (mul-le-mul h (pow-le-pow-right {n = 10} (zero-lt-suc 9) g)) (lt-of-lt-of-le (lit< {m = coefficientLimit * 10 ^ powerLimit} {n = 2 ^ 127} tt) (le-of-eq (sym (mul-one (2 ^ 127)))))
+    lt-of-le-of-lt (mul-le-mul h (pow-le-pow-right {n = 10} (zero-lt-suc 9) g))
+    (lt-of-lt-of-le (lit< {m = coefficientLimit * 10 ^ powerLimit} {n = 2 ^ 127} tt) (le-of-eq (sym (mul-one (2 ^ 127)))))
 bounded c (negsuc k) h g =
-    lt-of-le-of-lt (le-of-eq (mul-one c)) (lt-of-le-of-lt h (lt-of-lt-of-le (lit< {m = coefficientLimit} {n = 2 ^ 127} tt) (le-mul-of-pos-right (2 ^ 127) (ten-pos (suc k)))))
+    lt-of-le-of-lt (le-of-eq (mul-one c))
+    (lt-of-le-of-lt h (lt-of-lt-of-le (lit< {m = coefficientLimit} {n = 2 ^ 127} tt) (le-mul-of-pos-right (2 ^ 127) (ten-pos (suc k)))))
 
 pub scaled-finite : (s : Bool) (c : ℕ) (p : ℤ) → c ≤ coefficientLimit → natAbs p ≤ powerLimit → T (finite (scaled s c p))
 unfolding scaled
 scaled-finite s c p h g =
     finite-sign s (round binary64 false (c * numerator p) (denominator p))
     (finite-of (round binary64 false (c * numerator p) (denominator p)) false (grid binary64 (c * numerator p) (denominator p)) (2 ^ low binary64)
-    (round-val binary64 (c * numerator p) (denominator p) (under binary64 127 (c * numerator p) (denominator p) (down-some p) (bounded c p h g) (lit< tt))))
+    (round-val binary64 (c * numerator p) (denominator p)
+    (under binary64 127 (c * numerator p) (denominator p) (down-some p) (bounded c p h g) (lit< tt))))
 
 -- ---- a nearest 64-bit float
 
@@ -128,7 +133,8 @@ den-sign true nan = refl
 den-sign true (inf t) = refl
 den-sign true (fin t m e) = refl
 
-pub scaled-near : (s : Bool) (c : ℕ) (p : ℤ) → c ≤ coefficientLimit → natAbs p ≤ powerLimit → Nearest binary64 (scaled s c p) (c * numerator p) (denominator p)
+pub scaled-near : (s : Bool) (c : ℕ) (p : ℤ) → c ≤ coefficientLimit → natAbs p ≤ powerLimit
+    → Nearest binary64 (scaled s c p) (c * numerator p) (denominator p)
 unfolding scaled
 scaled-near s c p h g y t u =
     let x = round binary64 false (c * numerator p) (denominator p) in

@@ -1,5 +1,5 @@
 -- The rule of the table of powers: one test, which antt computes over the whole table.
-use mathlib.Core.Path.{_≡_, refl, sym, subst, _∙_}
+use mathlib.Core.Path.{refl, sym, subst, _∙_}
 use mathlib.Core.Bool.{Bool, true, false, _&&_}
 use mathlib.Core.List.{List, [], _∷_}
 use Prim.Native.Nat.{ℕ, zero, suc, _+_, _*_, _^_, _<_}
@@ -10,7 +10,7 @@ use lib.Ieee.{Float, nan, inf, fin, up, down, binary64, ofBits}
 use lib.Ieee.Fits.{and-l, and-r}
 use Rattle.scaling.specs.Scale.{Holds}
 
--- whether x is the whole number n
+-- Whether x is the whole number n.
 abbrev pub holds : Float → ℕ → Bool
 holds nan n = false
 holds (inf s) n = false
@@ -23,7 +23,7 @@ holds-is (inf s) n t = absurd t
 holds-is (fin true m e) n t = absurd t
 holds-is (fin false m e) n t = (refl, eqb→eq (m * up e * 1) (n * down e) t)
 
--- the entries of a list are the powers of ten, counted from i
+-- The entries of a list are the powers of ten, counted from i.
 abbrev pub tens : ℕ → List Float → Bool
 tens i [] = true
 tens i (x ∷ xs) = holds x (10 ^ i) && tens (suc i) xs
@@ -38,7 +38,7 @@ from (x ∷ xs) i t (suc k) h =
 pub entry : (xs : List Float) → T (tens 0 xs) → (k : ℕ) → k < length xs → Holds (getD xs k nan) false (10 ^ k)
 entry xs t k h = holds-is (getD xs k nan) (10 ^ k) (subst (λ (m : ℕ). T (holds (getD xs k nan) (10 ^ m))) (zero-add k) (from xs 0 t k h))
 
--- the table as the program has it: each entry by its bit pattern
+-- The table as the program has it: each entry by its bit pattern.
 abbrev ofPatterns : List ℕ → List Float
 ofPatterns [] = []
 ofPatterns (n ∷ ns) = ofBits binary64 n ∷ ofPatterns ns
@@ -51,7 +51,7 @@ powers = ofPatterns (
     0x43ab_c16d_674e_c800 ∷ 0x43e1_58e4_6091_3d00 ∷ 0x4415_af1d_78b5_8c40 ∷ 0x444b_1ae4_d6e2_ef50 ∷ 0x4480_f0cf_064d_d592 ∷ []
     )
 
--- entry k is 10^k
+-- Entry k is 10^k.
 pub power-is : (k : ℕ) → k < 23 → Holds (getD powers k nan) false (10 ^ k)
 unfolding ofBits
 power-is k h = entry powers tt k h

@@ -1,8 +1,7 @@
 -- A number halfway between two neighbours is rounded to the even one.
-use mathlib.Core.Path.{_≡_, refl, sym, ap, _∙_, subst}
-use mathlib.Core.Bool.{Bool, false}
+use mathlib.Core.Path.{_≡_, sym, ap, _∙_}
 use Prim.Native.Nat.{ℕ, suc, _+_, _-_, _*_, _/_, _%_, _^_, _≤_, _<_, compare, Ordering, Ordering·lt, Ordering·eq, Ordering·gt}
-use native.Mathlib.Nat.{le-of-eq, le-trans, lt-of-lt-of-le, lt-of-le-of-lt, mul-pos, mul-assoc, mul-comm, mul-left-comm, one-mul, add-mul, pow-suc, mul-le-mul-right, mul-lt-mul-of-pos-right, mul-div-cancel, mul-add-div-right, mul-add-mod-self-right, mod-eq-of-lt, div-eq-of-lt, not-le-of-lt}
+use native.Mathlib.Nat.{le-of-eq, le-trans, lt-of-lt-of-le, mul-pos, mul-assoc, mul-comm, mul-left-comm, one-mul, add-mul, pow-suc, mul-le-mul-right, mul-lt-mul-of-pos-right, mul-div-cancel, mul-add-div-right, mul-add-mod-self-right, mod-eq-of-lt, div-eq-of-lt, not-le-of-lt}
 use native.Mathlib.Omega.{arith}
 use lib.Pow.{pow-add, pow-pos, pow-mono}
 use lib.Ieee.{Format, prec, low, size, nearest}

@@ -1,6 +1,5 @@
 -- `edf_c::keywords::edf_real` meets its contract.
 use mathlib.Core.Path.{sym, ap, _∙_}
-use lib.Ieee.{Float}
 use Prim.Native.Nat.{ℕ}
 use Rattle.reals.specs.Answers.{measuredOutcome}
 use Rattle.edf_c.specs.Reals.{unitAndFloat, realNumbers}

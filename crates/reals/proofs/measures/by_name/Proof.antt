@@ -23,7 +23,11 @@ equal-requires-2 c κs = search needs
 
 returns-2 : tie.Need-returns-2
 unfolding measureNamed
-returns-2 c = sym (rw (sym (c .before .before .before .before .equal .ensures) ∙ c .before .before .before .if1 .left, sym (c .before .equal2 .ensures) ∙ c .if2 .taken))
+returns-2 c = sym (rw (
+  sym (c .before .before .before .before .equal .ensures) ∙ c .before .before .before .if1 .left,
+  sym (c .before .equal2 .ensures)
+      ∙ c .if2 .taken,
+))
 
 slice-aggregate-equal-3 : tie.Need-slice-aggregate-equal-3
 slice-aggregate-equal-3 c = search needs
@@ -33,11 +37,23 @@ equal-requires-3 c κs = search needs
 
 returns-3 : tie.Need-returns-3
 unfolding measureNamed
-returns-3 c = sym (rw (sym (c .before .before .before .before .before .before .before .equal .ensures) ∙ c .before .before .before .before .before .before .if1 .left, sym (c .before .before .before .before .equal2 .ensures) ∙ c .before .before .before .if2 .left, sym (c .before .equal3 .ensures) ∙ c .if3 .taken))
+returns-3 c = sym (rw (
+  sym (c .before .before .before .before .before .before .before .equal .ensures)
+      ∙ c .before .before .before .before .before .before .if1 .left,
+  sym (c .before .before .before .before .equal2 .ensures)
+      ∙ c .before .before .before .if2 .left,
+  sym (c .before .equal3 .ensures) ∙ c .if3 .taken,
+))
 
 returns-4 : tie.Need-returns-4
 unfolding measureNamed
-returns-4 c = sym (rw (sym (c .before .before .before .before .before .before .before .equal .ensures) ∙ c .before .before .before .before .before .before .if1 .left, sym (c .before .before .before .before .equal2 .ensures) ∙ c .before .before .before .if2 .left, sym (c .before .equal3 .ensures) ∙ c .if3 .left))
+returns-4 c = sym (rw (
+  sym (c .before .before .before .before .before .before .before .equal .ensures)
+      ∙ c .before .before .before .before .before .before .if1 .left,
+  sym (c .before .before .before .before .equal2 .ensures)
+      ∙ c .before .before .before .if2 .left,
+  sym (c .before .equal3 .ensures) ∙ c .if3 .left,
+))
 
 pub by-name-spec : {M : Type 1} → statement M
 by-name-spec =

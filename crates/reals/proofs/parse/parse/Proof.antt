@@ -64,17 +64,23 @@ returns c =
     let i = c .before .before .before .before .before .before .before .before .i .given in
     let m = c .before .before .before .m .given in
     c .with-exponent .ensures
-    ∙ at-measure (c .before .before .before .before .before .before .before .before .before .before .before .before .args .l .now) (i .0 .0) (m .0 .0) (sym (c .before .before .before .before .before .before .before .before .before .before .find .ensures) ∙ i .1) (sym (ap namedOption (m .1)) ∙ c .before .before .before .before .before .by-name .ensures)
+    ∙ at-measure (c .before .before .before .before .before .before .before .before .before .before .before .before .args .l .now) (i .0 .0)
+    (m .0 .0) (sym (c .before .before .before .before .before .before .before .before .before .before .find .ensures) ∙ i .1)
+    (sym (ap namedOption (m .1)) ∙ c .before .before .before .before .before .by-name .ensures)
 
 returns-2 : tie.Need-returns-2
 returns-2 c =
     let i = c .before .before .before .before .before .before .i .given in
     c .refusal .ensures
-    ∙ bad-measure (c .before .before .before .before .before .before .before .before .before .before .args .l .now) (i .0 .0) (sym (c .before .before .before .before .before .before .before .before .find .ensures) ∙ i .1) (sym (ap namedOption (c .before .enum-told .given .1)) ∙ c .before .before .before .by-name .ensures)
+    ∙ bad-measure (c .before .before .before .before .before .before .before .before .before .before .args .l .now) (i .0 .0)
+    (sym (c .before .before .before .before .before .before .before .before .find .ensures) ∙ i .1)
+    (sym (ap namedOption (c .before .enum-told .given .1)) ∙ c .before .before .before .by-name .ensures)
 
 returns-3 : tie.Need-returns-3
 returns-3 c =
-    c .with-exponent2 .ensures ∙ no-measure (c .before .before .before .before .before .args .l .now) (sym (c .before .before .before .find .ensures) ∙ c .before .enum-told2 .given .1)
+    c .with-exponent2 .ensures
+    ∙ no-measure (c .before .before .before .before .before .args .l .now)
+    (sym (c .before .before .before .find .ensures) ∙ c .before .enum-told2 .given .1)
 
 pub parse-spec : {M : Type 1} → statement M
 parse-spec =

@@ -69,19 +69,24 @@ returns c =
     let z = c .before .before .before .z .given in
     let F : SFits w64 (z .0 .0) = search needs in
     c .with-sign .ensures
-    ∙ at-exponent (s .args .m) (s .args .l .now) (i .0 .0) (z .0 .0) (toZ-ofZ w64 (z .0 .0) F) (sym (c .before .before .before .before .before .before .before .before .before .before .find .ensures) ∙ i .1) (sym (ap wholeOption (z .1)) ∙ c .before .before .before .before .before .whole-number .ensures)
+    ∙ at-exponent (s .args .m) (s .args .l .now) (i .0 .0) (z .0 .0) (toZ-ofZ w64 (z .0 .0) F)
+    (sym (c .before .before .before .before .before .before .before .before .before .before .find .ensures) ∙ i .1)
+    (sym (ap wholeOption (z .1)) ∙ c .before .before .before .before .before .whole-number .ensures)
 
 returns-2 : tie.Need-returns-2
 returns-2 c =
     let s = c .before .before .before .before .before .before .before .before .before .before in
     let i = c .before .before .before .before .before .before .i .given in
     c .refusal .ensures
-    ∙ bad-exponent (s .args .m) (s .args .l .now) (i .0 .0) (sym (c .before .before .before .before .before .before .before .before .find .ensures) ∙ i .1) (sym (ap wholeOption (c .before .enum-told .given .1)) ∙ c .before .before .before .whole-number .ensures)
+    ∙ bad-exponent (s .args .m) (s .args .l .now) (i .0 .0)
+    (sym (c .before .before .before .before .before .before .before .before .find .ensures) ∙ i .1)
+    (sym (ap wholeOption (c .before .enum-told .given .1)) ∙ c .before .before .before .whole-number .ensures)
 
 returns-3 : tie.Need-returns-3
 returns-3 c =
     let s = c .before .before .before .before .before in
-    c .with-sign2 .ensures ∙ no-exponent (s .args .m) (s .args .l .now) (sym (c .before .before .before .find .ensures) ∙ c .before .enum-told2 .given .1)
+    c .with-sign2 .ensures
+    ∙ no-exponent (s .args .m) (s .args .l .now) (sym (c .before .before .before .find .ensures) ∙ c .before .enum-told2 .given .1)
 
 pub with-exponent-spec : {M : Type 1} → statement M
 with-exponent-spec =

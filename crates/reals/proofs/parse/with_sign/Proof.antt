@@ -1,5 +1,5 @@
 -- `reals::parse::with_sign` meets its contract.
-use mathlib.Core.Path.{sym, ap, _∙_}
+use mathlib.Core.Path.{sym, _∙_}
 use Prim.Native.Nat.{_<_}
 use native.Mathlib.Omega.{arith}
 use lib.Dec.{lit≤}
@@ -16,7 +16,8 @@ some-byte : (c : tie.Then1) → 0 < length (c .before .before .before .args .l .
 some-byte c = byte-inside (c .before .before .before .args .l .now) 0 45 (sym (c .before .byte-at .ensures) ∙ c .if1 .taken) (lit≤ tt)
 
 some-byte-2 : (c : tie.Then2) → 0 < length (c .before .before .before .before .args .l .now)
-some-byte-2 c = byte-inside (c .before .before .before .before .args .l .now) 0 43 (sym (c .before .before .byte-at .ensures) ∙ c .if2 .taken) (lit≤ tt)
+some-byte-2 c = byte-inside (c .before .before .before .before .args .l .now) 0 43 (sym (c .before .before .byte-at .ensures) ∙ c .if2 .taken)
+    (lit≤ tt)
 
 byte-at-requires : tie.Need-byte-at-requires
 byte-at-requires c κs = search needs
@@ -37,7 +38,8 @@ returns : tie.Need-returns
 returns c =
     let s = c .before .before .before .before .before in
     c .without-sign .ensures
-    ∙ minus (s .args .m) (s .args .exponent) (s .args .l .now) (toZ-ofZ w64 (s .args .exponent) (s .fits .exponent)) (sym (c .before .before .before .byte-at .ensures) ∙ c .before .before .if1 .taken)
+    ∙ minus (s .args .m) (s .args .exponent) (s .args .l .now) (toZ-ofZ w64 (s .args .exponent) (s .fits .exponent))
+    (sym (c .before .before .before .byte-at .ensures) ∙ c .before .before .if1 .taken)
 
 sub-without-sign-2 : tie.Need-sub-without-sign-2
 sub-without-sign-2 c = omega (arith, some-byte-2 c)
@@ -56,7 +58,8 @@ returns-2 c =
     let s = c .before .before .before .before .before .before in
     let e = sym (c .before .before .before .before .byte-at .ensures) in
     c .without-sign2 .ensures
-    ∙ plus (s .args .m) (s .args .exponent) (s .args .l .now) (toZ-ofZ w64 (s .args .exponent) (s .fits .exponent)) (λ d. c .before .before .before .if1 .left (sym e ∙ d)) (e ∙ c .before .before .if2 .taken)
+    ∙ plus (s .args .m) (s .args .exponent) (s .args .l .now) (toZ-ofZ w64 (s .args .exponent) (s .fits .exponent))
+    (λ d. c .before .before .before .if1 .left (sym e ∙ d)) (e ∙ c .before .before .if2 .taken)
 
 without-sign-requires-3 : tie.Need-without-sign-requires-3
 without-sign-requires-3 c κs = search needs
@@ -66,7 +69,8 @@ returns-3 c =
     let s = c .before .before .before .before .before in
     let e = sym (c .before .before .before .byte-at .ensures) in
     c .without-sign3 .ensures
-    ∙ no-sign (s .args .m) (s .args .exponent) (s .args .l .now) (toZ-ofZ w64 (s .args .exponent) (s .fits .exponent)) (λ d. c .before .before .if1 .left (sym e ∙ d)) (λ d. c .before .if2 .left (sym e ∙ d))
+    ∙ no-sign (s .args .m) (s .args .exponent) (s .args .l .now) (toZ-ofZ w64 (s .args .exponent) (s .fits .exponent))
+    (λ d. c .before .before .if1 .left (sym e ∙ d)) (λ d. c .before .if2 .left (sym e ∙ d))
 
 pub with-sign-spec : {M : Type 1} → statement M
 with-sign-spec =

@@ -1,5 +1,5 @@
 -- `reals::parse::without_sign` meets its contract.
-use mathlib.Core.Path.{sym, ap, _∙_}
+use mathlib.Core.Path.{sym, _∙_}
 use Prim.Native.Nat.{_<_}
 use native.Mathlib.Nat.{le-of-lt}
 use native.Mathlib.Omega.{arith}
@@ -12,7 +12,8 @@ use borrow.Author.Needs.{needs}
 use Rattle.reals.proofs.parse.without_sign.Statement.{statement}
 use Rattle.reals.proofs.parse.without_sign.Tie as tie
 
-inside : (c : tie.After-with-digits-arg) → c .before .before .i .given .0 .0 < length (c .before .before .before .before .before .before .args .l .now)
+inside : (c : tie.After-with-digits-arg)
+    → c .before .before .i .given .0 .0 < length (c .before .before .before .before .before .before .args .l .now)
 inside c =
     let i = c .before .before .i .given in
     let f = c .before .before .before .before .find in
@@ -56,13 +57,15 @@ returns c =
     let s = c .before .before .before .before .before .before .before .before in
     let i = c .before .before .before .before .i .given in
     c .with-digits .ensures
-    ∙ at-point (s .args .m) (s .args .negative) (s .args .exponent) (s .args .l .now) (i .0 .0) (toZ-ofZ w64 (s .args .exponent) (s .fits .exponent)) (sym (c .before .before .before .before .before .before .find .ensures) ∙ i .1)
+    ∙ at-point (s .args .m) (s .args .negative) (s .args .exponent) (s .args .l .now) (i .0 .0)
+    (toZ-ofZ w64 (s .args .exponent) (s .fits .exponent)) (sym (c .before .before .before .before .before .before .find .ensures) ∙ i .1)
 
 returns-2 : tie.Need-returns-2
 returns-2 c =
     let s = c .before .before .before .before .before .before in
     c .with-digits2 .ensures
-    ∙ no-point (s .args .m) (s .args .negative) (s .args .exponent) (s .args .l .now) (toZ-ofZ w64 (s .args .exponent) (s .fits .exponent)) (sym (c .before .before .before .before .find .ensures) ∙ c .before .before .enum-told .given .1)
+    ∙ no-point (s .args .m) (s .args .negative) (s .args .exponent) (s .args .l .now) (toZ-ofZ w64 (s .args .exponent) (s .fits .exponent))
+    (sym (c .before .before .before .before .find .ensures) ∙ c .before .before .enum-told .given .1)
 
 pub without-sign-spec : {M : Type 1} → statement M
 without-sign-spec =

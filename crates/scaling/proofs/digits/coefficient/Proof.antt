@@ -11,15 +11,19 @@ use borrow.Author.Needs.{needs}
 use Rattle.scaling.proofs.digits.coefficient.Statement.{statement}
 use Rattle.scaling.proofs.digits.coefficient.Tie as tie
 
--- what the digits before the point came to
-first : (c : tie.After-n) → some (c .n .given .0 .0) ≡ capped (digitsFrom 0 (c .before .before .before .before .before .before .args .whole .now))
+-- What the digits before the point came to,
+first : (c : tie.After-n)
+    → let a = c .before .before .before .before .before .before .args in some (c .n .given .0 .0) ≡ capped (digitsFrom 0 (a .whole .now))
 first c = sym (ap digitsOption (c .n .given .1)) ∙ c .before .before .further .ensures
 
--- and with those after it
-whole-is : (c : tie.After-further) → furtherDigits (digitsFrom 0 (c .before .before .before .before .args .whole .now)) (c .before .before .before .before .args .fraction .now) ≡ natural (c .before .before .before .before .args .whole .now ++ c .before .before .before .before .args .fraction .now)
+-- and with those after it.
+whole-is : (c : tie.After-further)
+    → let a = c .before .before .before .before .args in
+    furtherDigits (digitsFrom 0 (a .whole .now)) (a .fraction .now) ≡ natural (a .whole .now ++ a .fraction .now)
 whole-is c =
     let a = c .before .before .before .before .args in
-    sym (some-digit (a .whole .now) (a .fraction .now) (λ h g. ⊎-elim (λ w. w .1 .left g) (λ w. w .left h) (c .before .if1 .came)) ∙ joined 0 (a .whole .now) (a .fraction .now))
+    let digit = some-digit (a .whole .now) (a .fraction .now) (λ h g. ⊎-elim (λ w. w .1 .left g) (λ w. w .left h) (c .before .if1 .came)) in
+    sym (digit ∙ joined 0 (a .whole .now) (a .fraction .now))
 
 returns : tie.Need-returns
 returns c = let a = c .before .before .before .before .args in no-digit (a .whole .now) (a .fraction .now) (c .before .if1 .taken) (c .if2 .taken)
@@ -31,7 +35,8 @@ enum-known-n : tie.Need-enum-known-n
 enum-known-n c = search needs
 
 further-requires-2 : tie.Need-further-requires-2
-further-requires-2 c κs = kept-le (c .before .n .given .0 .0) (digitsFrom 0 (c .before .before .before .before .before .before .before .args .whole .now)) (first (c .before))
+further-requires-2 c κs = kept-le (c .before .n .given .0 .0)
+    (digitsFrom 0 (c .before .before .before .before .before .before .before .args .whole .now)) (first (c .before))
 
 enum-told : tie.Need-enum-told
 enum-told c = search needs

@@ -29,7 +29,8 @@ returns c =
     let a = c .before .before .before .before .apart in
     let n = c .before .before .n .given in
     c .from-positive .ensures
-    ∙ sym (ap (λ (z : ℤ). bounded (z -ℤ pos (s .args .places))) (held (s .args .exponent) (a .result) (Up (n .0 .0)) (s .fits .exponent) (a .ensures .0) (n .1)))
+    ∙ sym (ap (λ (z : ℤ). bounded (z -ℤ pos (s .args .places)))
+    (held (s .args .exponent) (a .result) (Up (n .0 .0)) (s .fits .exponent) (a .ensures .0) (n .1)))
 
 returns-2 : tie.Need-returns-2
 returns-2 c =
@@ -37,7 +38,8 @@ returns-2 c =
     let a = c .before .before .before .before .apart in
     let n = c .before .before .n2 .given in
     c .from-negative .ensures
-    ∙ sym (ap (λ (z : ℤ). bounded (z -ℤ pos (s .args .places))) (held (s .args .exponent) (a .result) (Down (n .0 .0)) (s .fits .exponent) (a .ensures .0) (n .1)))
+    ∙ sym (ap (λ (z : ℤ). bounded (z -ℤ pos (s .args .places)))
+    (held (s .args .exponent) (a .result) (Down (n .0 .0)) (s .fits .exponent) (a .ensures .0) (n .1)))
 
 pub resulting-spec : {M : Type 1} → statement M
 resulting-spec =

@@ -1,3 +1,4 @@
+-- `scaling::powers::power_of_ten` meets its contract: by the rule of the whole table.
 use borrow.Author.Needs.{needs}
 use Rattle.scaling.proofs.TableLaws.{power-is}
 use Rattle.scaling.proofs.powers.power_of_ten.Statement.{statement}

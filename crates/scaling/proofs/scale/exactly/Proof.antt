@@ -1,3 +1,4 @@
+-- `scaling::scale::exactly` meets its contract.
 use mathlib.Core.Bool.{false}
 use Prim.Native.Nat.{_^_}
 use lib.Dec.{le→leb}

@@ -15,7 +15,8 @@ power-of-ten-requires c κs = search needs
 returns : tie.Need-returns
 returns c =
     let a = c .before .before .args in
-    div-whole binary64 (c .before .exactly .result) (c .power-of-ten .result) (a .c) (10 ^ a .k) (ten-pos (a .k)) (c .before .exactly .ensures) (c .power-of-ten .ensures)
+    div-whole binary64 (c .before .exactly .result) (c .power-of-ten .result) (a .c) (10 ^ a .k) (ten-pos (a .k)) (c .before .exactly .ensures)
+    (c .power-of-ten .ensures)
 
 pub over-spec : {M : Type 1} → statement M
 over-spec = tie.close (tie.spec exactly-requires power-of-ten-requires returns)

@@ -15,7 +15,8 @@ power-of-ten-requires c κs = search needs
 returns : tie.Need-returns
 returns c =
     let a = c .before .before .args in
-    mul-whole binary64 (c .before .exactly .result) (c .power-of-ten .result) (a .c) (10 ^ a .k) (c .before .exactly .ensures) (c .power-of-ten .ensures)
+    mul-whole binary64 (c .before .exactly .result) (c .power-of-ten .result) (a .c) (10 ^ a .k) (c .before .exactly .ensures)
+    (c .power-of-ten .ensures)
 
 pub times-spec : {M : Type 1} → statement M
 times-spec = tie.close (tie.spec exactly-requires power-of-ten-requires returns)
