@@ -14,7 +14,7 @@ use Rattle.scan.proofs.Cases.{by-test}
 use Rattle.scan.proofs.Decides.{same-decides, decided}
 use Rattle.text.specs.Number.{natural}
 use Rattle.lexical.proofs.WholeLaws.{natural-sound, whole-sound}
-use Rattle.reals.specs.Cut.{before, after, orEmpty}
+use Rattle.reals.specs.Cut.{before, after, bytesAfter}
 use Rattle.reals.specs.Form.{IsSign, IsDecimal, plain, pointed, IsExponent, given, IsMeasure, metres, degrees, radians, Pieces, IsNumeral}
 use Rattle.reals.specs.Form as form
 use Rattle.reals.specs.Measure.{measureNamed}
@@ -42,7 +42,7 @@ pub record Decimal (m : Measure) (negative : Bool) (z : ℤ) (d : List ℕ) (x :
   pub says : numeral m negative (z -ℤ pos places) coefficient ≡ x
 
 module _ (m : Measure) (negative : Bool) (z : ℤ) {x : Numeral} where
-  digits-from : (front : List ℕ) (o : Option (List ℕ)) → withDigits m negative z front (orEmpty o) ≡ some x
+  digits-from : (front : List ℕ) (o : Option (List ℕ)) → withDigits m negative z front (bytesAfter o) ≡ some x
       → Decimal m negative z (front ++ from 46 o) x
   unfolding withDigits
   digits-from front none e =

@@ -16,6 +16,7 @@ abbrev pub after : Found → List ℕ → Option (List ℕ)
 after (At i) l = some (drop (i + 1) l)
 after Nothing l = none
 
-abbrev pub orEmpty : Option (List ℕ) → List ℕ
-orEmpty none = []
-orEmpty (some l) = l
+-- The bytes after it; none where it does not stand there.
+abbrev pub bytesAfter : Option (List ℕ) → List ℕ
+bytesAfter none = []
+bytesAfter (some l) = l

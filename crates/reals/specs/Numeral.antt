@@ -9,7 +9,7 @@ use lib.ListN.{length, drop}
 use Rattle.scan.specs.Byte.{byte}
 use Rattle.scan.specs.Search.{firstFrom, is}
 use Rattle.text.specs.Number.{natural, wholeNumber}
-use Rattle.reals.specs.Cut.{before, after, orEmpty}
+use Rattle.reals.specs.Cut.{before, after, bytesAfter}
 use Rattle.reals.specs.Measure.{measureNamed}
 use Rattle.reals.specs.declared.Measure.{Measure}
 use Rattle.reals.specs.declared.Measure.the-variants as measure
@@ -38,7 +38,7 @@ withDigits m negative exponent whole fraction =
 -- The point is 46.
 unfoldable pub withoutSign : Measure → Bool → ℤ → List ℕ → Option Numeral
 withoutSign m negative exponent l =
-    let p = firstFrom (is 46) l 0 in withDigits m negative exponent (before p l) (orEmpty (after p l))
+    let p = firstFrom (is 46) l 0 in withDigits m negative exponent (before p l) (bytesAfter (after p l))
 
 -- "optional sign": `-`, 45, or `+`, 43.
 unfoldable pub withSign : Measure → ℤ → List ℕ → Option Numeral
