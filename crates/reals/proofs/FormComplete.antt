@@ -14,7 +14,8 @@ use Rattle.lexical.proofs.WholeLaws.{natural-complete, whole-complete}
 use Rattle.reals.specs.Form.{IsSign, IsDecimal, plain, pointed, IsExponent, given, IsMeasure, metres, degrees, radians, Pieces, Reading}
 use Rattle.reals.specs.Form as form
 use Rattle.reals.specs.Measure.{measureNamed}
-use Rattle.reals.specs.Numeral.{Numeral, numeral, withDigits, withoutSign, withSign, exponentOf, withExponent, measureOf, numeralOf}
+use Rattle.reals.specs.Numeral.{Numeral, numeral}
+use Rattle.reals.specs.Parse.{withDigits, withoutSign, withSign, exponentOf, withExponent, measureOf, numeralOf}
 use Rattle.reals.specs.declared.Measure.{Measure}
 use Rattle.reals.proofs.FreeLaws.{FreeOf, NoDigit, free-nil, free-one, free-append, free-first, digits-free, whole-free, before-free, after-free}
 use Rattle.reals.proofs.SplitLaws.{from, split-before, split-after}

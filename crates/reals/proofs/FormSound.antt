@@ -15,10 +15,11 @@ use Rattle.scan.proofs.Decides.{same-decides, decided}
 use Rattle.text.specs.Number.{natural}
 use Rattle.lexical.proofs.WholeLaws.{natural-sound, whole-sound}
 use Rattle.reals.specs.Cut.{before, after, bytesAfter}
-use Rattle.reals.specs.Form.{IsSign, IsDecimal, plain, pointed, IsExponent, given, IsMeasure, metres, degrees, radians, Pieces, IsNumeral}
+use Rattle.reals.specs.Form.{IsSign, IsDecimal, plain, pointed, IsExponent, given, IsMeasure, metres, degrees, radians, Pieces, Reading, IsNumeral}
 use Rattle.reals.specs.Form as form
 use Rattle.reals.specs.Measure.{measureNamed}
-use Rattle.reals.specs.Numeral.{Numeral, numeral, andThen, withDigits, withoutSign, withSign, exponentOf, withExponent, measureOf, numeralOf}
+use Rattle.reals.specs.Numeral.{Numeral, numeral}
+use Rattle.reals.specs.Parse.{andThen, withDigits, withoutSign, withSign, exponentOf, withExponent, measureOf, numeralOf}
 use Rattle.reals.specs.declared.Measure.{Measure}
 use Rattle.reals.proofs.SplitLaws.{from, rejoined}
 
@@ -107,6 +108,29 @@ exponent-is : (o : Option (List ℕ)) {z : ℤ} → exponentOf o ≡ some z → 
 exponent-is none {z} e = subst (IsExponent []) (Option·some-injective (pos 0) z e) form.none
 exponent-is (some w) e = given (whole-sound w e)
 
+-- What stands before the unit: sign, digits and exponent.
+record Scaled (m : Measure) (l : List ℕ) (x : Numeral) : Type 0 where
+  front : List ℕ
+  exponent : List ℕ
+  z : ℤ
+  is : l ≡ front ++ exponent
+  exponent-at : IsExponent exponent z
+  signed : Signed m z front x
+
+exponent-from : (m : Measure) {x : Numeral} (l : List ℕ) → withExponent m l ≡ some x → Scaled m l x
+unfolding withExponent
+exponent-from m l e =
+    let f = firstFrom (is 101) l 0 in
+    let z = then-some (exponentOf (after f l)) (λ i. withSign m i (before f l)) e in
+    record {
+      front = before f l;
+      exponent = from 101 (after f l);
+      z = z .0;
+      is = rejoined 101 l;
+      exponent-at = exponent-is (after f l) (z .1);
+      signed = sign-from m (z .0) (before f l) (z .2);
+    }
+
 -- A word that is one of the units' names.
 named-is : (w : List ℕ) {m : Measure} → measureNamed w ≡ some m → IsMeasure (95 ∷ w) m
 unfolding measureNamed
@@ -127,30 +151,34 @@ measure-is (some w) e = named-is w e
 
 -- ---- The whole text
 
-pub sound : (l : List ℕ) {x : Numeral} → numeralOf l ≡ some x → IsNumeral l x
-unfolding numeralOf withExponent
-sound l {x} e =
-    let u = firstFrom (is 95) l 0 in
-    let m = then-some (measureOf (after u l)) (λ k. withExponent k (before u l)) e in
-    let k = before u l in
-    let v = firstFrom (is 101) k 0 in
-    let z = then-some (exponentOf (after v k)) (λ i. withSign (m .0) i (before v k)) (m .2) in
-    let s = sign-from (m .0) (z .0) (before v k) (z .2) in
+-- The pieces of a text, end to end.
+joined : {m : Measure} {k : List ℕ} {x : Numeral} (c : Scaled m k x) {l : List ℕ} (t : List ℕ) → l ≡ k ++ t
+    → l ≡ c .signed .sign ++ (c .signed .digits ++ (c .exponent ++ t))
+joined c t e =
+    e ∙ ap (λ (r : List ℕ). r ++ t) (c .is ∙ ap (λ (r : List ℕ). r ++ c .exponent) (c .signed .is)) ∙ simp append-assoc
+
+says : {m : Measure} {k : List ℕ} {x : Numeral} → Scaled m k x → {t : List ℕ} → IsMeasure t m → (l : List ℕ) → l ≡ k ++ t → IsNumeral l x
+says c {t} u l e =
+    let s = c .signed in
     let d = s .decimal in
-    let p : Pieces = record { sign = s .sign; digits = s .digits; exponent = from 101 (after v k); measure = from 95 (after u l) } in
-    let cut : l ≡ s .sign ++ (s .digits ++ (from 101 (after v k) ++ from 95 (after u l))) =
-    rejoined 95 l ∙ ap (λ (r : List ℕ). r ++ from 95 (after u l)) (rejoined 101 k ∙ ap (λ (r : List ℕ). r ++ from 101 (after v k)) (s .is))
-    ∙ simp append-assoc in (
+    let p : Pieces = record { sign = s .sign; digits = s .digits; exponent = c .exponent; measure = t } in (
       p,
-      subst (λ (y : Numeral). form.Reading l p y) (d .says)
+      subst (Reading l p) (d .says)
           (record {
-            exponent = z .0;
+            exponent = c .z;
             places = d .places;
-            is = cut;
+            is = joined c t e;
             sign-is = s .sign-is;
             digits-are = d .is;
-            exponent-is = exponent-is (after v k) (z .1);
-            measure-is = measure-is (after u l) (m .1);
+            exponent-is = c .exponent-at;
+            measure-is = u;
             power-is = refl;
           }),
     )
+
+pub sound : (l : List ℕ) {x : Numeral} → numeralOf l ≡ some x → IsNumeral l x
+unfolding numeralOf
+sound l e =
+    let f = firstFrom (is 95) l 0 in
+    let m = then-some (measureOf (after f l)) (λ k. withExponent k (before f l)) e in
+    says (exponent-from (m .0) (before f l) (m .2)) (measure-is (after f l) (m .1)) l (rejoined 95 l)

@@ -15,7 +15,8 @@ use Rattle.scan.specs.declared.Error.{Error}
 use Rattle.scan.proofs.Cases.{by-test, by-option, both-true, clash, none-some, ok-failed}
 use Rattle.scaling.specs.Limits.{coefficientLimit, powerLimit}
 use Rattle.reals.specs.Form.{IsNumeral, InBounds, IsReal, IsOutOfBounds}
-use Rattle.reals.specs.Numeral.{Numeral, numeralOf}
+use Rattle.reals.specs.Numeral.{Numeral}
+use Rattle.reals.specs.Parse.{numeralOf}
 use Rattle.reals.specs.Real.{isBounded, valueIn, judged, realOf}
 use Rattle.reals.specs.declared.Real.{Real}
 use Rattle.reals.proofs.FormComplete.{complete}

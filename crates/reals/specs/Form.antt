@@ -9,7 +9,6 @@ use lib.IntN.{ℤ, pos, natAbs, _-ℤ_}
 use lib.ListN.{length}
 use Rattle.scan.specs.Byte.{ascii}
 use Rattle.lexical.specs.Whole.{Digits, IsWhole}
-use Rattle.scaling.specs.Limits.{coefficientLimit, powerLimit}
 use Rattle.scaling.specs.Scale.{scaled}
 use Rattle.reals.specs.Measure.{measuredIn}
 use Rattle.reals.specs.Numeral.{Numeral}
@@ -70,8 +69,8 @@ IsNumeral l x = (p : Pieces) × Reading l p x
 
 -- "With the point taken out the digits are at most 9,007,199,254,740,992, and the resulting power of ten lies from -22 to 22."
 pub record InBounds (x : Numeral) : Type 0 where
-  pub coefficient : x .coefficient ≤ coefficientLimit
-  pub power : natAbs (x .power) ≤ powerLimit
+  pub coefficient : x .coefficient ≤ 9007199254740992
+  pub power : natAbs (x .power) ≤ 22
 
 -- A text that stands for the real number r: its float is the written number rounded once, in the unit written.
 pub record IsReal (l : List ℕ) (r : Real) : Type 0 where
