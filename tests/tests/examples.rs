@@ -1,8 +1,9 @@
-//! The examples of 01, "Examples both sides", one by one, by the second reader and by the library. Listings have the letters of 02, No. 1.
+//! The examples of 01, "Examples both sides", one by one, by the second reader and by the library; and those of FORMAT.md for the real
+//! numbers of 02, No. 2. Listings have the letters of 02, No. 1.
 
 use edf_tests::both::*;
 use edf_tests::files::{array, padded};
-use edf_tests::reader::{orders, Error, Frame, Pixel};
+use edf_tests::reader::{orders, Error, Frame, Pixel, Real};
 
 fn opened(file: &[u8]) -> (u8, usize) {
     open(file, 256).map_or_else(|e| (e.code, e.position), |_| (0, 0))
@@ -39,6 +40,35 @@ fn texts() {
     assert_eq!(text(&values, 0, b"a", 3), Ok(b"a;b".to_vec()));
     assert_eq!(text(&values, 0, b"b", 0), Ok(vec![]));
     assert_eq!(escape(b"x;", 5), Ok(b"\"x\\:\"".to_vec()));
+}
+
+fn real_of(value: &str) -> Result<Real, u8> {
+    real(&array(&format!("w={value};"), &[]), 0, b"w").map_err(|e| e.code)
+}
+
+#[test]
+fn reals() {
+    assert_eq!(real_of("32.5_deg"), Ok(Real::Degrees(32.5)));
+    assert_eq!(real_of("9007199254740992"), Ok(Real::Number(9_007_199_254_740_992.0)));
+    assert_eq!(real_of("1801439850948199e1"), Ok(Real::Number(18_014_398_509_481_992.0)));
+    assert!(matches!(real_of("-0"), Ok(Real::Number(zero)) if zero.to_bits() == 1 << 63));
+    assert_eq!((real_of(".5"), real_of("5."), real_of("5.e1_m")), (Ok(Real::Number(0.5)), Ok(Real::Number(5.0)), Ok(Real::Metres(50.0))));
+    for value in ["1E5", "1_km", "1m", ".", "1e", "1 _m", "1e9223372036854775808"] {
+        assert_eq!(real_of(value), Err(18), "{value}");
+    }
+}
+
+#[test]
+fn bounds_of_reals() {
+    let zeros = "0".repeat(40);
+    let inside = [("1e22", 1e22), ("0.1e23", 1e22), ("1.5e23", 1.5e23), ("10e22", 1e23), ("1.000000000000000", 1.0)];
+    for (value, expected) in inside {
+        assert_eq!(real_of(value), Ok(Real::Number(expected)), "{value}");
+    }
+    assert_eq!(real_of(&format!("{zeros}1.5")), Ok(Real::Number(1.5)));
+    for value in ["1e23", "0e23", "1.5e-22", "9007199254740993", "1.0000000000000000", "0.00000000000000000000000"] {
+        assert_eq!(real_of(value), Err(27), "{value}");
+    }
 }
 
 #[test]
