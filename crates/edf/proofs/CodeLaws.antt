@@ -24,7 +24,7 @@ use Rattle.blocks.specs.declared.Row.{Row}
 use Rattle.blocks.proofs.Errors.{error-bounded}
 use Rattle.blocks.proofs.Sound.{error-sound}
 use Rattle.keyword.specs.Keyword.{View, entriesAt, generalEntries, isGeneral, viewOf, lookupIn, entryOf, found, wholeNumberOf, textIn}
-use Rattle.reals.specs.Parse.{numeralOf}
+use Rattle.reals.specs.Numerals.{numeralOf}
 use Rattle.reals.specs.Real.{isBounded, judged, realOf}
 use Rattle.quantities.specs.Real.{realIn}
 use Rattle.raster.specs.Position.{product}

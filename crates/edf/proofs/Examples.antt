@@ -17,7 +17,7 @@ use Rattle.blocks.specs.Judging.{blockAt}
 use Rattle.blocks.specs.Opening.{openedFrom, opened}
 use Rattle.scaling.specs.Scale.{scaled}
 use Rattle.reals.specs.Measure.{measureNamed}
-use Rattle.reals.specs.Parse.{withDigits, withoutSign, withSign, withExponent, numeralOf}
+use Rattle.reals.specs.Numerals.{withDigits, withoutSign, withSign, withExponent, numeralOf}
 use Rattle.reals.specs.Real.{judged, realOf}
 use Rattle.reals.specs.declared.Real.the-variants.{Number, Metres, Degrees, Radians}
 use Rattle.raster.specs.Axis.{forward, backward, configurations, insertWithAfter, orderFrom, orderOf}

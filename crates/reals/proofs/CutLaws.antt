@@ -17,7 +17,7 @@ use Rattle.scan.specs.declared.Found.the-variants.{At, Nothing}
 use Rattle.scan.proofs.Searches.{FoundSays, search-says}
 use Rattle.text.specs.Number.{wholeNumber}
 use Rattle.reals.specs.Measure.{measureNamed}
-use Rattle.reals.specs.Parse.{withDigits, withoutSign, withSign, withExponent, numeralOf}
+use Rattle.reals.specs.Numerals.{withDigits, withoutSign, withSign, withExponent, numeralOf}
 use Rattle.reals.specs.Real.{judged, realOf}
 use Rattle.reals.specs.declared.Measure.{Measure}
 use Rattle.reals.specs.declared.Measure.the-variants.{Bare}

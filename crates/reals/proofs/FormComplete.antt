@@ -11,11 +11,11 @@ use Rattle.scan.specs.Byte.{ascii, same}
 use Rattle.scan.specs.Search.{is}
 use Rattle.lexical.specs.Whole.{Digits}
 use Rattle.lexical.proofs.WholeLaws.{natural-complete, whole-complete}
-use Rattle.reals.specs.Form.{IsSign, IsDecimal, plain, pointed, IsExponent, given, IsMeasure, metres, degrees, radians, Pieces, Reading}
+use Rattle.reals.specs.Form.{IsSign, IsDecimal, plain, pointed, IsExponent, given, IsMeasure, metres, degrees, radians, Pieces, Parse}
 use Rattle.reals.specs.Form as form
 use Rattle.reals.specs.Measure.{measureNamed}
 use Rattle.reals.specs.Numeral.{Numeral, numeral}
-use Rattle.reals.specs.Parse.{withDigits, withoutSign, withSign, exponentOf, withExponent, measureOf, numeralOf}
+use Rattle.reals.specs.Numerals.{withDigits, withoutSign, withSign, exponentOf, withExponent, measureOf, numeralOf}
 use Rattle.reals.specs.declared.Measure.{Measure}
 use Rattle.reals.proofs.FreeLaws.{FreeOf, NoDigit, free-nil, free-one, free-append, free-first, digits-free, whole-free, before-free, after-free}
 use Rattle.reals.proofs.SplitLaws.{from, split-before, split-after}
@@ -93,7 +93,7 @@ measure-gives front free h =
 
 -- ---- The whole text
 
-module _ {l : List ℕ} {p : Pieces} {x : Numeral} (h : Reading l p x) where
+module _ {l : List ℕ} {p : Pieces} {x : Numeral} (h : Parse l p x) where
   -- No sign stands in the digits, no `e` before the exponent, no underscore before the unit.
   pub digits-plus-free : FreeOf 43 (p .digits)
   digits-plus-free = point-free 43 (λ k l q. omega arith) (h .digits-are) (λ q. omega arith)

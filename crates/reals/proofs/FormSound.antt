@@ -15,11 +15,11 @@ use Rattle.scan.proofs.Decides.{same-decides, decided}
 use Rattle.text.specs.Number.{natural}
 use Rattle.lexical.proofs.WholeLaws.{natural-sound, whole-sound}
 use Rattle.reals.specs.Cut.{before, after, bytesAfter}
-use Rattle.reals.specs.Form.{IsSign, IsDecimal, plain, pointed, IsExponent, given, IsMeasure, metres, degrees, radians, Pieces, Reading, IsNumeral}
+use Rattle.reals.specs.Form.{IsSign, IsDecimal, plain, pointed, IsExponent, given, IsMeasure, metres, degrees, radians, Pieces, Parse, IsNumeral}
 use Rattle.reals.specs.Form as form
 use Rattle.reals.specs.Measure.{measureNamed}
 use Rattle.reals.specs.Numeral.{Numeral, numeral}
-use Rattle.reals.specs.Parse.{andThen, withDigits, withoutSign, withSign, exponentOf, withExponent, measureOf, numeralOf}
+use Rattle.reals.specs.Numerals.{andThen, withDigits, withoutSign, withSign, exponentOf, withExponent, measureOf, numeralOf}
 use Rattle.reals.specs.declared.Measure.{Measure}
 use Rattle.reals.proofs.SplitLaws.{from, rejoined}
 
@@ -163,7 +163,7 @@ says c {t} u l e =
     let d = s .decimal in
     let p : Pieces = record { sign = s .sign; digits = s .digits; exponent = c .exponent; measure = t } in (
       p,
-      subst (Reading l p) (d .says)
+      subst (Parse l p) (d .says)
           (record {
             exponent = c .z;
             places = d .places;

@@ -18,7 +18,7 @@ use Rattle.scaling.specs.Scale.{scaled}
 use Rattle.scaling.proofs.DigitLaws.{cap-small, cap-large}
 use Rattle.reals.specs.Measure.{measuredIn}
 use Rattle.reals.specs.Numeral.{numeral}
-use Rattle.reals.specs.Parse.{withDigits}
+use Rattle.reals.specs.Numerals.{withDigits}
 use Rattle.reals.specs.Real.{judged}
 use Rattle.reals.specs.declared.Measure.{Measure}
 

@@ -4,6 +4,6 @@ pub mod FormSound
 pub mod FreeLaws
 pub mod JudgedLaws
 pub mod Main
-pub mod OneReading
+pub mod OneParse
 pub mod SplitLaws
 pub mod ValueLaws

@@ -1,5 +1,5 @@
 -- The main theorems about texts of real numbers: `realOf` reads just those that have the form and lie inside the bounds, each error is.
--- Given exactly in its case, and a text has one reading.
+-- Given exactly in its case, and what a text says is one.
 use mathlib.Core.Path.{_≡_, refl, sym, ap, _∙_, subst}
 use mathlib.Core.Bool.{true}
 use mathlib.Core.List.{List}
@@ -16,7 +16,7 @@ use Rattle.scan.proofs.Cases.{by-test, by-option, both-true, clash, none-some, 
 use Rattle.scaling.specs.Limits.{coefficientLimit, powerLimit}
 use Rattle.reals.specs.Form.{IsNumeral, InBounds, IsReal, IsOutOfBounds}
 use Rattle.reals.specs.Numeral.{Numeral}
-use Rattle.reals.specs.Parse.{numeralOf}
+use Rattle.reals.specs.Numerals.{numeralOf}
 use Rattle.reals.specs.Real.{isBounded, valueIn, judged, realOf}
 use Rattle.reals.specs.declared.Real.{Real}
 use Rattle.reals.proofs.FormComplete.{complete}

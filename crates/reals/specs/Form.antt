@@ -51,7 +51,7 @@ pub record Pieces : Type 0 where
   pub measure : List ℕ
 
 -- The text is these pieces, end to end, and they say x: "the resulting power of ten" is the exponent less the digits after the point.
-pub record Reading (l : List ℕ) (p : Pieces) (x : Numeral) : Type 0 where
+pub record Parse (l : List ℕ) (p : Pieces) (x : Numeral) : Type 0 where
   pub exponent : ℤ
   pub places : ℕ
   pub is : l ≡ p .sign ++ (p .digits ++ (p .exponent ++ p .measure))
@@ -63,7 +63,7 @@ pub record Reading (l : List ℕ) (p : Pieces) (x : Numeral) : Type 0 where
 
 -- A text of the form, which says x.
 abbrev pub IsNumeral : List ℕ → Numeral → Type 0
-IsNumeral l x = (p : Pieces) × Reading l p x
+IsNumeral l x = (p : Pieces) × Parse l p x
 
 -- ---- The number
 

@@ -3,5 +3,5 @@ pub mod Cut
 pub mod Form
 pub mod Measure
 pub mod Numeral
-pub mod Parse
+pub mod Numerals
 pub mod Real

@@ -1,4 +1,4 @@
--- What a text says as a real number: "a double float" of 000, before it is rounded (02, No. 2).
+-- What a text says as a real number, "000's double float" (02, No. 2), before it is bounded and rounded.
 use mathlib.Core.Bool.{Bool}
 use Prim.Native.Nat.{ℕ}
 use lib.IntN.{ℤ}

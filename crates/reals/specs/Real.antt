@@ -10,7 +10,7 @@ use Rattle.scaling.specs.Limits.{coefficientLimit, powerLimit}
 use Rattle.scaling.specs.Scale.{scaled}
 use Rattle.reals.specs.Measure.{measuredIn}
 use Rattle.reals.specs.Numeral.{Numeral}
-use Rattle.reals.specs.Parse.{numeralOf}
+use Rattle.reals.specs.Numerals.{numeralOf}
 use Rattle.reals.specs.declared.Real.{Real}
 
 -- "With the point taken out the digits are at most 9,007,199,254,740,992, and the resulting power of ten lies from -22 to 22."

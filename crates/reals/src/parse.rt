@@ -17,7 +17,7 @@ use text::number::Whole;
 ghost use mathlib.Core.Path.{_≡_};
 ghost use Rattle.scan.specs.Outcome.{failed, errorAt};
 ghost use Rattle.reals.specs.Answers.{measuredOutcome};
-ghost use Rattle.reals.specs.Parse.{withDigits, withoutSign, withSign, withExponent};
+ghost use Rattle.reals.specs.Numerals.{withDigits, withoutSign, withSign, withExponent};
 ghost use Rattle.reals.specs.Real.{judged, realOf};
 
 // The real number that a text stands for. Errors: 18 it has not the form; 27 it is outside the bounds.

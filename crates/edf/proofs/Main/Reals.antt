@@ -24,8 +24,8 @@ use Rattle.fields.specs.Keyword.{HasKeyword, LacksKeyword}
 use Rattle.fields.proofs.KeywordLaws.{keyword-missing, block-missing}
 use Rattle.quantities.proofs.ReadLaws.{real-is, real-formless, real-outside, no-real}
 use Rattle.edf.proofs.CallLaws.{measured-by, measured-as}
--- ---- The form has one reading, and a text stands for one real number at most
-pub use Rattle.reals.proofs.OneReading.{one-reading}
+-- ---- A text has one parse, and stands for one real number at most
+pub use Rattle.reals.proofs.OneParse.{one-parse}
 pub use Rattle.reals.proofs.Main.{one-numeral, one-real}
 -- ---- Its float is finite, none is nearer to what is written, of two that are just as near it is the even one, it is exact where what is
 -- written is a whole number, and zero keeps its sign

@@ -1,4 +1,4 @@
--- A text has one reading: any two have the same pieces.
+-- A text has one parse: any two have the same pieces.
 use mathlib.Core.Path.{_≡_, refl, sym, ap, _∙_}
 use mathlib.Core.Bool.{Bool}
 use mathlib.Core.List.{List, _∷_, _++_, tail-eq-of-cons-eq, head-eq-of-cons-eq}
@@ -11,7 +11,7 @@ use Rattle.scan.specs.Search.{firstFrom, is}
 use Rattle.scan.proofs.Cases.{clash}
 use Rattle.text.proofs.Parts.{each-head}
 use Rattle.reals.specs.Cut.{before, after}
-use Rattle.reals.specs.Form.{IsSign, Pieces, Reading}
+use Rattle.reals.specs.Form.{IsSign, Pieces, Parse}
 use Rattle.reals.specs.Form as form
 use Rattle.reals.specs.Numeral.{Numeral}
 use Rattle.reals.proofs.FormComplete.{exponent-tail, measure-tail, digits-plus-free, digits-minus-free, front-free, measure-front-free, cut}
@@ -45,8 +45,8 @@ module _ {d e : List ℕ} (d-plus : FreeOf 43 d) (d-minus : FreeOf 45 d) (e-plus
 abbrev pieces : List ℕ → List ℕ → List ℕ → List ℕ → Pieces
 pieces s d e t = record { sign = s; digits = d; exponent = e; measure = t }
 
-pub one-reading : {l : List ℕ} {p q : Pieces} {x y : Numeral} → Reading l p x → Reading l q y → p ≡ q
-one-reading {l} {p} {q} a b =
+pub one-parse : {l : List ℕ} {p q : Pieces} {x y : Numeral} → Parse l p x → Parse l q y → p ≡ q
+one-parse {l} {p} {q} a b =
     let t = measure-tail (a .measure-is) in
     let u = measure-tail (b .measure-is) in
     let e = exponent-tail (a .exponent-is) in
