@@ -1,5 +1,5 @@
--- The main theorems about texts of real numbers: `realOf` reads just those that have the form and lie inside the bounds, each error is.
--- Given exactly in its case, and what a text says is one.
+-- The main theorems about texts of real numbers: `realOf` reads just those that have the form and lie inside the bounds, each error is
+-- given exactly in its case, and what a text says is one.
 use mathlib.Core.Path.{_≡_, refl, sym, ap, _∙_, subst}
 use mathlib.Core.Bool.{true}
 use mathlib.Core.List.{List}
@@ -79,7 +79,7 @@ from-real {l} h = rw (complete (h .form .1), bounded-in (h .bounds)) (ap ok (sym
 pub reads : (l : List ℕ) {r : Real} → (realOf l ≡ ok r) ↔ IsReal l r
 reads l = (to-real (is-judged l), from-real)
 
--- So that it stands for one at most.
+-- so that it stands for one at most.
 pub one-real : {l : List ℕ} {r q : Real} → IsReal l r → IsReal l q → r ≡ q
 one-real {r = r} {q = q} a b = let e : ok r ≡ ok q = sym (from-real a) ∙ from-real b in cc
 
@@ -111,7 +111,7 @@ from-outside (formless h) n = absurd (h (n .numeral) (n .form))
 pub refuses-bounds : (l : List ℕ) → (realOf l ≡ refused 27 0) ↔ IsOutOfBounds l
 refuses-bounds l = (to-outside (is-judged l), from-outside (is-judged l))
 
--- And no other.
+-- and no other.
 pub no-other : (l : List ℕ) {e : Error} → realOf l ≡ failed e → (e ≡ errorAt 18 0) ⊎ (e ≡ errorAt 27 0)
 no-other l {e} = go (is-judged l)
   where

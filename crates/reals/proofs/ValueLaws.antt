@@ -1,5 +1,5 @@
--- What the float of a real number is: the written number rounded once. The exact number is coefficient * numerator / denominator, two.
--- Whole numbers.
+-- What the float of a real number is: the written number rounded once. The exact number is coefficient * numerator / denominator, two
+-- whole numbers.
 use mathlib.Core.Path.{_≡_, refl, sym, ap, _∙_, subst}
 use mathlib.Core.List.{List}
 use Prim.Native.Nat.{ℕ, _*_, _≤_}
@@ -37,13 +37,13 @@ module _ {l : List ℕ} {r : Real} (h : IsReal l r) where
       subst (λ (y : Float). T (finite y)) (sym value-scaled)
       (laws.scaled-finite (x .negative) (x .coefficient) (x .power) (h .bounds .coefficient) (h .bounds .power))
 
-  -- No 64-bit float is nearer to the written number,
+  -- no 64-bit float is nearer to the written number,
   pub value-nearest : Nearest binary64 (floatOf r) (x .coefficient * numerator (x .power)) (denominator (x .power))
   value-nearest =
       subst (λ (y : Float). Nearest binary64 y (x .coefficient * numerator (x .power)) (denominator (x .power))) (sym value-scaled)
       (laws.scaled-near (x .negative) (x .coefficient) (x .power) (h .bounds .coefficient) (h .bounds .power))
 
-  -- Of two neighbours that are just as near it is the even one,
+  -- of two neighbours that are just as near it is the even one,
   pub value-even : {q j : ℕ} → Halfway binary64 (x .coefficient * numerator (x .power)) (denominator (x .power)) q j
       → IsEven binary64 (floatOf r) (x .negative) q j
   value-even {q} {j} half =
@@ -56,7 +56,7 @@ module _ {l : List ℕ} {r : Real} (h : IsReal l r) where
   value-exact n small e =
       subst (λ (y : Float). Holds y (x .negative) n) (sym value-scaled) (laws.exact (x .negative) (x .coefficient) (x .power) n small e)
 
-  -- And zero keeps its sign.
+  -- and zero keeps its sign.
   pub value-zero : x .coefficient ≡ 0 → floatOf r ≡ fin (x .negative) 0 (pos 0)
   value-zero e =
       value-scaled ∙ ap (λ (c : ℕ). scaled (x .negative) c (x .power)) e ∙ laws.zeros (x .negative) (x .power)

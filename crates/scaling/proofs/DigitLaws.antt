@@ -22,7 +22,7 @@ pub cap-large : (n : ℕ) → coefficientLimit < n → cap n ≡ coefficientLimi
 unfolding cap
 cap-large n h = rw (lt-leb n coefficientLimit h)
 
--- a number as the loop keeps it.
+-- A number as the loop keeps it.
 pub cap-kept : (n : ℕ) → n ≤ coefficientLimit + 1 → cap n ≡ n
 cap-kept n h = by-test (leb n coefficientLimit) (λ e. cap-small n (leb-true n coefficientLimit e))
     (λ e. let l = leb-false n coefficientLimit e in cap-large n l ∙ omega arith)

@@ -77,7 +77,7 @@ module _ (p n b : ℕ) (P : 0 < p) (B : 0 < b) where
   abbrev G : ℕ
   G = kept p n b * 2 ^ k
 
-  -- a multiple of 2 ^ k.
+  -- A multiple of 2 ^ k.
   multiple : (z : ℕ) → off n b G ≤ off n b (z * 2 ^ k)
   multiple z =
       subst (λ (w : ℕ). distance w n ≤ off n b (z * 2 ^ k)) (turn (kept p n b))
@@ -86,7 +86,7 @@ module _ (p n b : ℕ) (P : 0 < p) (B : 0 < b) where
       turn : (w : ℕ) → w * (b * 2 ^ k) ≡ w * 2 ^ k * b
       turn w = simp (mul-assoc, mul-comm, mul-left-comm)
 
-  -- a power of two that is a multiple of 2 ^ k and lies below the fraction, and above all values with a smaller last digit.
+  -- A power of two that is a multiple of 2 ^ k and lies below the fraction, and above all values with a smaller last digit.
   abbrev W : ℕ
   W = 2 ^ (p - 1) * 2 ^ k
 

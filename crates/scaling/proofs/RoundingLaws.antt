@@ -54,7 +54,7 @@ mul-whole f (fin false m e) (fin false n d) a b p q =
     round-same f false (m * up e * (n * up d)) (down e * down d) (a * b) 1 (mul-pos (down-pos e) (down-pos d)) (pow-pos 0)
     (mul-one (m * up e * (n * up d)) ∙ rw (flat m e a (p .1), flat n d b (q .1)) (mul-mul-mul-comm a (down e) b (down d)))
 
--- a value above zero has digits.
+-- A value above zero has digits.
 some : (n : ℕ) (d : ℤ) (b : ℕ) → 0 < b → n * up d ≡ b * down d → 0 < n
 some n d b B q = first-pos n (up d) (subst (λ (z : ℕ). 0 < z) (sym q) (mul-pos B (down-pos d)))
 

@@ -74,7 +74,7 @@ fewer z p b l h = omega arith
 enough : (p b l e : ℕ) → p + b < e → p + b + l < l + e
 enough p b l e h = omega arith
 
--- a fraction below 2^b, with room above that for the digits kept.
+-- A fraction below 2^b, with room above that for the digits kept.
 under : (f : Format) (b a d : ℕ) → 0 < d → a < 2 ^ b * d → prec f + b < suc (emax f) → grid f a d < overflow f
 under f b a d D h room =
     let p = prec f in
