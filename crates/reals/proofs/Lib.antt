@@ -4,6 +4,7 @@ pub mod FormSound
 pub mod FreeLaws
 pub mod JudgedLaws
 pub mod Main
+pub mod MeasureLaws
 pub mod OneParse
 pub mod SplitLaws
 pub mod ValueLaws

@@ -1,10 +1,11 @@
 -- A number halfway between two neighbours is rounded to the even one.
-use mathlib.Core.Path.{_≡_, sym, ap, _∙_}
+use mathlib.Core.Path.{_≡_, refl, sym, ap, _∙_}
 use Prim.Native.Nat.{ℕ, suc, _+_, _-_, _*_, _/_, _%_, _^_, _≤_, _<_, compare, Ordering, Ordering·lt, Ordering·eq, Ordering·gt}
 use native.Mathlib.Nat.{le-of-eq, le-trans, lt-of-lt-of-le, mul-pos, mul-assoc, mul-comm, mul-left-comm, one-mul, add-mul, pow-suc, mul-le-mul-right, mul-lt-mul-of-pos-right, mul-div-cancel, mul-add-div-right, mul-add-mod-self-right, mod-eq-of-lt, div-eq-of-lt, not-le-of-lt}
 use native.Mathlib.Omega.{arith}
 use lib.Pow.{pow-add, pow-pos, pow-mono}
-use lib.Ieee.{Format, prec, low, size, nearest}
+use lib.Dec.{lit≤, lit<}
+use lib.Ieee.{Format, binary64, prec, low, size, nearest}
 use lib.Ieee.Digits.{size-lt, size-le}
 use lib.Ieee.Nearest.{closest}
 use lib.Ieee.Order.{drop}
@@ -104,3 +105,7 @@ module _ (f : Format) (a b q j : ℕ) (B : 0 < b) (h : Halfway f a b q j) where
 
   pub tie-even : grid f a b ≡ (q + q % 2) * 2 ^ suc j
   tie-even = rw (dropped, step-is, closest-tie n (half * 2) q quotient remainder)
+
+-- There are such numbers inside the bounds: 1801439850948199 times 10 lies halfway between 18014398509481988 and 18014398509481992.
+pub some-tie : Halfway binary64 (1801439850948199 * 10) 1 4503599627370497 1075
+some-tie = record { enough = lit≤ tt; few = lit< tt; midway = refl }
