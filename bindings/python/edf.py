@@ -398,7 +398,7 @@ def _block(number, row):
 
 
 def _is_alone(place, block):
-    """Whether the library opens the bytes of a block alone as one block with the same lengths, kind and identity."""
+    """Whether the library opens the bytes of a block alone as one block with the same row but for its start."""
     try:
         return _opened(place.address, place.length) == (block._replace(number=0, start=0),)
     except EdfError:
@@ -507,7 +507,8 @@ class File:
     def _place(self, block):
         """Where a call on a block looks: as little of the file as answers the same. A call judges the whole file that it gets, so
         that with the whole file each would cost the time of all headers. A block of a file without a general block is looked at by
-        itself, if it is the same alone: its answers then hang on the same header and the same data."""
+        itself, if it is the same alone: its answers are then the same, with spans counted from its start. This is proved
+        (docs/BINDINGS.md)."""
         block, (address, length, owner) = self._block(block), self._open_bytes()
         alone = _Place(address + block.start, block.header_length + block.data_length, 0, block.start, owner)
         if len(self._blocks) > 1 and not self._has_general_block() and _is_alone(alone, block):

@@ -131,8 +131,8 @@ impl<'a> File<'a> {
 
     /// The part of the file in which calls on a block answer as in the whole file. A call judges the whole file that it gets, so
     /// that with the whole file each would cost the time of all headers. A block of a file without a general block is looked at by
-    /// itself, if the library opens its bytes alone as one block with the same lengths, kind and identity: its answers then hang
-    /// on the same header and the same data.
+    /// itself, if the library opens its bytes alone as one block with the same row but for its start. Its answers are then the same,
+    /// with spans counted from its start: this is proved (docs/BINDINGS.md).
     fn source(&self, number: usize, row: &Row) -> Source<'a> {
         let alone = Source { bytes: row.bytes(self.bytes), start: row.start, number: 0 };
         let is_first = Row { start: 0, ..*row };

@@ -17,7 +17,7 @@ use Rattle.blocks.specs.declared.Row.{Row}
 use Rattle.blocks.proofs.BlockLaws.{block-inside}
 
 module _ (n : ℕ) (s t : List ℕ) (agree : take n s ≡ take n t) where
-  has-local : {at : ℕ} {h : Header} {ts : List Statement} {es : List Entry} → at + h .length ≤ n → HasHeader s at h ts es → HasHeader t at h ts es
+  pub has-local : {at : ℕ} {h : Header} {ts : List Statement} {es : List Entry} → at + h .length ≤ n → HasHeader s at h ts es → HasHeader t at h ts es
   has-local l x = record {
     header = header-local n s t agree l (x .header);
     parse = parse-local n s t agree l (x .header) (x .parse);

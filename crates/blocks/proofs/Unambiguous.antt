@@ -24,7 +24,7 @@ module _ {s : List ℕ} where
   -- ---- Its blocks
 
   module _ {rows : List Row} (c : Partition s rows) {row : Row} (m : List·Memᴰ row rows) where
-    block-of : (at : ℕ) × (next : ℕ) × IsBlock s (c .rules) at row next
+    pub block-of : (at : ℕ) × (next : ℕ) × IsBlock s (c .rules) at row next
     block-of = chain-member (IsBlock s (c .rules)) (λ at. at ≡ length s) 0 rows (c .blocks) m
 
     pub row-header : BlockHeader s (blockOf row)

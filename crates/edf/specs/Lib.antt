@@ -1,4 +1,5 @@
 pub mod Calls
 pub mod Codes
 pub mod Example
+pub mod Independence
 pub mod Opening

@@ -19,8 +19,8 @@ use Rattle.blocks.specs.declared.Row.{Row}
 use Rattle.blocks.proofs.BlockLaws.{said-once, keys-distinct}
 use Rattle.blocks.proofs.PlaceLaws.{finds-entry, one-at}
 use Rattle.blocks.proofs.Unambiguous.{row-header}
+use Rattle.locality.proofs.Rows.{member-at}
 use Rattle.keyword.specs.Keyword.{entriesAt}
-use Rattle.keyword.proofs.Views.{member-at}
 use Rattle.description.proofs.DescribedLaws.{same-ok}
 use Rattle.fields.specs.Keyword.{HeaderHas}
 

@@ -58,7 +58,7 @@ module _ (s : List ℕ) where
       none-here [] w = fault-dark s at h w
       none-here (t ∷ ts) c = fault-none s at h (c .1)
 
-  finds-within : (n at : ℕ) → length s ≤ at + n → Finds (EndToEnd at) (statementsWithin (suc n) s at)
+  pub finds-within : (n at : ℕ) → length s ≤ at + n → Finds (EndToEnd at) (statementsWithin (suc n) s at)
   unfolding statementsWithin
   finds-within zero at h = finds-continued at (statementAt s at) _ (statement-says s at) (λ k l u. absurd (omega arith))
   finds-within (suc n) at h =

@@ -1,3 +1,5 @@
 pub mod Lookups
 pub mod Reading
+pub mod Shared
+pub mod SharedValues
 pub mod Views

@@ -55,7 +55,7 @@ module _ (s : List ℕ) (k : ℕ) (name : List ℕ) where
 
   -- ---- The value as a whole number
 
-  number-by : wholeNumberOf s k name ≡ (valueFound s k name >>= λ v. present (wholeNumber v) 18 0)
+  pub number-by : wholeNumberOf s k name ≡ (valueFound s k name >>= λ v. present (wholeNumber v) 18 0)
   unfolding wholeNumberOf valueFound
   number-by = by-outcome (entryOf s k name) (λ x q. rw q) (λ x q. rw q)
 
@@ -71,7 +71,7 @@ module _ (s : List ℕ) (k : ℕ) (name : List ℕ) where
 
   -- ---- The value as text
 
-  text-by : textIn s k name ≡ (valueFound s k name >>= λ v. shortText (textOf v))
+  pub text-by : textIn s k name ≡ (valueFound s k name >>= λ v. shortText (textOf v))
   unfolding textIn valueFound
   text-by = by-outcome (entryOf s k name) (λ x q. rw q) (λ x q. rw q)
 

@@ -2,8 +2,8 @@
 use mathlib.Core.Path.{_≡_, refl, sym, ap, _∙_}
 use mathlib.Core.Bool.{true, false, _&&_}
 use mathlib.Core.Logic.{_≢_}
-use mathlib.Core.List.{List, [], _∷_, List·Memᴰ, List·Memᴰ·head, List·Memᴰ·tail}
-use mathlib.Core.Option.{none, some, Option·some-injective}
+use mathlib.Core.List.{List, [], _∷_}
+use mathlib.Core.Option.{none, some}
 use Prim.Native.Nat.{ℕ, zero, suc, _+_, _≤_, _<_}
 use native.Mathlib.Omega.{arith}
 use borrow.Author.Tests.{lt-leb, eq-eqb, ne-eqb}
@@ -28,6 +28,7 @@ use Rattle.blocks.specs.declared.Row.{Row}
 use Rattle.blocks.proofs.Answers.{within-limit}
 use Rattle.blocks.proofs.Sound.{opened-sound}
 use Rattle.blocks.proofs.Unambiguous.{row-header, row-inside}
+use Rattle.locality.proofs.Rows.{member-at}
 use Rattle.opening.specs.Core.{Opens}
 use Rattle.opening.specs.declared.Opening.{Opening}
 use Rattle.keyword.specs.Keyword.{View, entriesAt, generalEntries, viewOf}
@@ -36,11 +37,6 @@ use Rattle.keyword.specs.Viewing.{headerEntries, viewAt, sharedEntries, 
 -- ---- Rows of a list
 
 module _ {A : Type 0} where
-  pub member-at : (l : List A) (k : ℕ) {x : A} → getElem? l k ≡ some x → List·Memᴰ x l
-  member-at [] k e = absurd (none-some e)
-  member-at (y ∷ l) zero {x} e = List·Memᴰ·head (sym (Option·some-injective y x e))
-  member-at (y ∷ l) (suc k) e = List·Memᴰ·tail (member-at l k e)
-
   pub element-at : (l : List A) (k : ℕ) (d : A) → k < length l → getElem? l k ≡ some (getD l k d)
   element-at [] k d h = absurd (omega arith)
   element-at (x ∷ l) zero d h = refl

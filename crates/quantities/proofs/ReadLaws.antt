@@ -25,7 +25,7 @@ use Rattle.quantities.specs.Real.{realIn}
 -- ---- By what is found
 
 module _ (s : List ℕ) (b : ℕ) (sought : List ℕ) where
-  real-by : realIn s b sought ≡ (valueFound s b sought >>= realOf)
+  pub real-by : realIn s b sought ≡ (valueFound s b sought >>= realOf)
   unfolding realIn valueFound
   real-by = by-outcome (entryOf s b sought) (λ x q. rw q) (λ x q. rw q)
 

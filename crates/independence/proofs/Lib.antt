@@ -1,0 +1,4 @@
+pub mod Arrays
+pub mod Conditions
+pub mod Descriptions
+pub mod Files
