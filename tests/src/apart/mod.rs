@@ -167,3 +167,83 @@ fn moved(answer: &Answer, shift: isize) -> Answer {
     }
     answer
 }
+
+#[cfg(test)]
+mod tests {
+    use super::*;
+    use crate::answer::answer;
+    use crate::generate::pairs::{pair, two_of_kind_1, Law, SECOND};
+
+    /// How many of the first pairs keep the law for this reader, break it, and ask nothing.
+    fn outcomes(reader: Reader, law: Law) -> [usize; 3] {
+        let all = (0..60).filter_map(|number| pair(law, 3, number)).map(|pair| kept_apart(reader, &pair));
+        counted(all)
+    }
+
+    fn outcomes_joined(reader: Reader) -> [usize; 3] {
+        counted((0..20).map(|number| two_of_kind_1(3, number)).map(|[one, other]| end_to_end(reader, &one, &other)))
+    }
+
+    fn counted(all: impl Iterator<Item = Result<Option<Answered>, Box<Breach>>>) -> [usize; 3] {
+        let mut counts = [0; 3];
+        all.for_each(|outcome| counts[outcome.map_or(1, |answered| if answered.is_some() { 0 } else { 2 })] += 1);
+        counts
+    }
+
+    /// A keyword that is not found is sought in the block before.
+    fn also_before(file: &[u8], call: &Call) -> Option<Answer> {
+        match (call, answer(file, call)) {
+            (Call::Find { block, key }, Answer::Failed { code: 16, .. }) if *block > 0 => {
+                Some(answer(file, &Call::Find { block: block - 1, key: key.clone() }))
+            }
+            (_, answer) => Some(answer),
+        }
+    }
+
+    /// Positions of values start anew after 1,024 bytes.
+    fn wrapped(file: &[u8], call: &Call) -> Option<Answer> {
+        Some(match answer(file, call) {
+            Answer::Place { start, length } => Answer::Place { start: start % 1_024, length },
+            answer => answer,
+        })
+    }
+
+    /// No row starts after 1,024 bytes.
+    fn near(file: &[u8], call: &Call) -> Option<Answer> {
+        Some(match answer(file, call) {
+            Answer::Rows(rows) => Answer::Rows(rows.iter().map(|row| Row { start: row.start.min(1_024), ..*row }).collect()),
+            answer => answer,
+        })
+    }
+
+    /// No file is accepted.
+    fn refusing(_: &[u8], _: &Call) -> Option<Answer> {
+        Some(Answer::Failed { code: 3, position: 0 })
+    }
+
+    #[test]
+    fn the_laws_hold_of_the_second_reader() {
+        for law in [Law::Edited, Law::Moved, Law::Alone] {
+            let [kept, broken, unasked] = outcomes(SECOND, law);
+            assert!(kept >= 40 && broken == 0 && unasked == 0, "{law:?}: {kept}, {broken}, {unasked}");
+        }
+        assert_eq!(outcomes_joined(SECOND), [20, 0, 0]);
+    }
+
+    #[test]
+    fn wrong_readers_break_the_laws() {
+        assert!(outcomes(also_before, Law::Edited)[1] > 2);
+        assert!(outcomes(also_before, Law::Moved)[1] > 2);
+        assert!(outcomes(wrapped, Law::Moved)[1] > 2);
+        assert!(outcomes_joined(also_before)[1] > 2);
+        assert!(outcomes(wrapped, Law::Alone)[1] > 2);
+        assert!(outcomes_joined(near)[1] > 2);
+    }
+
+    #[test]
+    fn the_laws_ask_nothing_of_a_reader_that_refuses() {
+        let [kept, broken, unasked] = outcomes(refusing, Law::Edited);
+        assert!(kept == 0 && broken == 0 && unasked >= 40, "{kept}, {broken}, {unasked}");
+        assert_eq!(outcomes_joined(refusing), [0, 0, 20]);
+    }
+}

@@ -46,12 +46,27 @@ pub fn run(law: Law, pairs: usize, also: fn(&Pair) -> Shown) -> Counts {
     let of_pair = |number| match pair(law, seed(), number) {
         None => Shown::from(["dropped".to_string()]),
         Some(pair) => match kept_apart(library, &pair) {
-            Ok(Some(answered)) => also(&pair).into_iter().chain(shown(&answered)).collect(),
+            Ok(Some(answered)) => {
+                spans_in_headers(&pair, &answered);
+                also(&pair).into_iter().chain(shown(&answered)).collect()
+            }
             Ok(None) => panic!("{law:?}, seed {}, pair {number}: the library refuses a file, or gives another row", seed()),
             Err(breach) => panic!("{law:?}, seed {}, pair {number}: {breach}", seed()),
         },
     };
     counted(parallel::for_each(0..share(pairs), of_pair))
+}
+
+/// What is found stands in the block's own header or in the general one, so never in another block.
+fn spans_in_headers(pair: &Pair, answered: &Answered) {
+    let rows = rows(&pair.one);
+    let general = rows.first().filter(|row| row.kind == 0);
+    let headers: Vec<_> = general.into_iter().chain([&rows[pair.block]]).map(|row| row.start..row.start + row.header_length).collect();
+    for (call, answer) in answered {
+        if let Answer::Place { start, length } = answer {
+            assert!(headers.iter().any(|header| header.contains(start) && start + length < header.end), "{call:?}: {answer:?}");
+        }
+    }
 }
 
 pub fn counted(all: Vec<Shown>) -> Counts {

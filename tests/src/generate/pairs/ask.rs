@@ -37,7 +37,7 @@ fn beside(blocks: &[Block], number: usize) -> Vec<&Block> {
     numbers.into_iter().filter_map(|other| blocks.get(other)).collect()
 }
 
-/// The keys that are sought in the block, each once.
+/// The keys that are sought in the block, each once and folded.
 pub fn keys(one: &[u8], block: usize, other: &[u8], other_block: usize) -> Vec<Vec<u8>> {
     let blocks = cut(one).unwrap_or_default();
     let mut keys = blocks.get(block).map_or(vec![], |own| keys_of(own, MOST_OWN));
@@ -47,7 +47,7 @@ pub fn keys(one: &[u8], block: usize, other: &[u8], other_block: usize) -> Vec<V
         let blocks = cut(file).unwrap_or_default();
         keys.extend(beside(&blocks, number).into_iter().flat_map(|block| keys_of(block, MOST_OTHER / 2)));
     }
-    keys.extend([&b"no such key"[..], b"EDF_none", b""].map(<[u8]>::to_vec));
+    keys.extend([&b"no such key"[..], b"edf_none", b"", b"title", b"note", b"wavelength"].map(<[u8]>::to_vec));
     keys.sort();
     keys.dedup();
     keys

@@ -90,18 +90,27 @@ fn added(random: &mut Random, block: &mut BlockPlan) {
     }
 }
 
-/// Other pixels, as many: one changed, all changed, or such that look like statements or a header.
+/// Other pixels, as many: one changed, all changed, or such that look like statements.
 pub fn pixels(random: &mut Random, data: &[u8]) -> Vec<u8> {
     let mut bytes = data.to_vec();
     let number = random.below(data.len());
-    match (bytes.get_mut(number), random.below(3)) {
+    match (bytes.get_mut(number), random.below(4)) {
         (Some(byte), 0) => *byte ^= 1 << random.below(8),
         (_, 1) => bytes = random.bytes(data.len()),
-        _ => {
-            let likely = [&b"DataType=SignedByte;Dim_1=1;"[..], b"Title=t;Note=1;", b"}\n{DataType=x;", b"{Dim_1=2;}\n", b"ByteOrder=x;"];
-            bytes = random.pick(&likely).to_vec();
-            bytes.resize(data.len(), b' ');
+        _ => bytes = like_statements(random, data.len()),
+    }
+    bytes
+}
+
+/// Statements in so many bytes, filled with spaces; some after what looks like the end of a header and the start of another.
+fn like_statements(random: &mut Random, length: usize) -> Vec<u8> {
+    let mut bytes = random.pick(&[&b""[..], b"", b"", b"}\n{"]).to_vec();
+    for key in FIELDS.into_iter().chain(REAL_KEYS).chain(["Title", "Note"]) {
+        let statement = format!("{key}={};", random.pick(&["1", "2", "SignedByte", "None"]));
+        if bytes.len() + statement.len() <= length && random.percent(50) {
+            bytes.extend(statement.as_bytes());
         }
     }
+    bytes.resize(length, b' ');
     bytes
 }

@@ -81,7 +81,7 @@ fn plan(random: &mut Random, kind: u8, general: bool, boundary: usize, count: us
     let mut plan = valid::of_blocks(random, kind, general, boundary, count);
     plan.blocks.iter_mut().skip(1).filter(|_| kind == 1).for_each(|block| edf_key_first(random, block));
     if general && random.percent(50) {
-        let length = random.below(60);
+        let length = random.below(200);
         Shape::of(&plan).set_data(random, &mut plan.blocks[0], length);
     }
     plan
