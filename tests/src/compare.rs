@@ -53,7 +53,8 @@ pub fn compare_case(reader: Reader, seed: u64, number: usize, case: &Case) -> Re
 
 const PANICKED: Answer = Answer::Broken("panicked");
 
-fn unless_panicked(answer: impl Fn() -> Option<Answer>) -> Option<Answer> {
+/// What the reader answers; a panic is an answer that no call may give.
+pub fn unless_panicked(answer: impl Fn() -> Option<Answer>) -> Option<Answer> {
     catch_unwind(AssertUnwindSafe(answer)).unwrap_or(Some(PANICKED))
 }
 

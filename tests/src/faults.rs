@@ -6,7 +6,7 @@ pub struct Fault {
     pub new: &'static str,
 }
 
-const fn fault(file: &'static str, old: &'static str, new: &'static str) -> Fault {
+pub const fn fault(file: &'static str, old: &'static str, new: &'static str) -> Fault {
     Fault { file, old, new }
 }
 

@@ -2,6 +2,7 @@
 //! and generated cases to compare readers with.
 
 pub mod answer;
+pub mod apart;
 pub mod both;
 pub mod compare;
 pub mod files;

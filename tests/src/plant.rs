@@ -1,7 +1,10 @@
-//! Plants faults in copies of the second reader, one in each, and checks that the generated cases find every one.
+//! Plants faults in copies of the second reader, one in each, and checks that the generated cases find every one; and that the laws of keeping
+//! blocks apart, asked of the faulty reader alone, find every fault that they rule out.
 
+mod apart_faults;
 mod faults;
 
+use apart_faults::APART_FAULTS;
 use faults::{Fault, FAULTS};
 use std::fs;
 use std::path::{Path, PathBuf};
@@ -9,6 +12,7 @@ use std::process::{exit, Command};
 
 const SEED: u64 = 1;
 const CASES: usize = 20_000;
+const PAIRS: usize = 400;
 
 fn main() {
     let package = Path::new(env!("CARGO_MANIFEST_DIR"));
@@ -27,7 +31,7 @@ fn build_copies(package: &Path, folder: &Path) -> Result<(), String> {
     if source.exists() {
         told(fs::remove_dir_all(&source), &source)?;
     }
-    for (number, fault) in FAULTS.iter().enumerate() {
+    for (number, fault) in FAULTS.iter().chain(APART_FAULTS).enumerate() {
         copy_with_fault(&package.join("src/reader"), &source.join(name(number)), fault)?;
     }
     let manifest = folder.join("Cargo.toml");
@@ -81,17 +85,24 @@ fn manifest_text(package: &Path) -> String {
     )
 }
 
+/// The numbers and faults of a list, the first with this number.
+fn listed(first: usize, faults: &[Fault]) -> (String, String) {
+    let readers = (first..first + faults.len()).map(|i| format!("|file, call| Some(answer_{i:03}(file, call))"));
+    let titles = faults.iter().map(|f| format!("({:?}, {:?}, {:?})", f.file, f.old, f.new));
+    let [titles, readers] = [titles.collect::<Vec<_>>(), readers.collect()].map(|lines| format!("&[\n        {}\n    ]", lines.join(",\n        ")));
+    (titles, readers)
+}
+
 fn main_text() -> String {
-    let numbers = 0..FAULTS.len();
     let module = |i: usize| format!("mod {0};\nedf_tests::answer_function!(answer_{i:03}, {0});", name(i));
-    let modules: Vec<String> = numbers.clone().map(module).collect();
-    let readers: Vec<String> = numbers.map(|i| format!("|file, call| Some(answer_{i:03}(file, call))")).collect();
-    let titles: Vec<String> = FAULTS.iter().map(|f| format!("({:?}, {:?}, {:?})", f.file, f.old, f.new)).collect();
+    let modules: Vec<String> = (0..FAULTS.len() + APART_FAULTS.len()).map(module).collect();
+    let (titles, readers) = listed(0, FAULTS);
+    let (apart_titles, apart_readers) = listed(FAULTS.len(), APART_FAULTS);
     format!(
-        "#![allow(warnings)]\n{}\n\nfn main() {{\n    let titles = [\n        {}\n    ];\n    \
-        edf_tests::planted::print_found(&titles, &[\n        {}\n    ], {SEED}, {CASES});\n}}\n",
+        "#![allow(warnings)]\n{}\n\nfn main() {{\n    \
+        let found = edf_tests::planted::print_found({titles}, {readers}, {SEED}, {CASES});\n    \
+        let broken = edf_tests::planted::print_broken({apart_titles}, {apart_readers}, {SEED}, {PAIRS});\n    \
+        std::process::exit(i32::from(!(found && broken)));\n}}\n",
         modules.join("\n"),
-        titles.join(",\n        "),
-        readers.join(",\n        ")
     )
 }

@@ -7,6 +7,7 @@ pub mod fields;
 pub mod flips;
 pub mod mutate;
 pub mod origins;
+pub mod pairs;
 pub mod plan;
 pub mod random;
 pub mod reals;

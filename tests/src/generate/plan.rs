@@ -71,7 +71,7 @@ impl BlockPlan {
         self.statements.iter().take_while(|s| plain(&s.key).starts_with(b"edf_")).count()
     }
 
-    fn render(&self) -> Vec<u8> {
+    pub fn render(&self) -> Vec<u8> {
         let mut bytes = [&self.lead[..], b"{"].concat();
         for s in &self.statements {
             bytes.extend([&s.key[..], &s.equals, &s.value, b";"].concat());

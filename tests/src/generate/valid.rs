@@ -29,6 +29,11 @@ pub fn valid(random: &mut Random) -> Plan {
     let small = general && random.percent(50);
     let boundary = if small { random.pick(&[1, 2, 7, 16, 64, 100, 512, 1_024]) } else { 512 };
     let count = block_count(random, boundary);
+    of_blocks(random, kind, general, boundary, count)
+}
+
+/// The same with so many data blocks; only a file with a general header may have another boundary than 512.
+pub fn of_blocks(random: &mut Random, kind: u8, general: bool, boundary: usize, count: usize) -> Plan {
     let shared = shared(random, general);
     let mut blocks = Vec::new();
     if general {

@@ -1,0 +1,177 @@
+//! The rest of a file, edited around a block that stays as it is.
+
+use super::edits;
+use super::fit::Shape;
+use crate::apart::Pair;
+use crate::generate::plan::{BlockPlan, Plan};
+use crate::generate::random::Random;
+
+/// A file around a block: the general block, if it stands before, and the blocks before and after.
+struct Rest<'a> {
+    shape: Shape,
+    general: Option<&'a BlockPlan>,
+    before: &'a [BlockPlan],
+    after: &'a [BlockPlan],
+    /// A general header says how many blocks there are.
+    counted: bool,
+}
+
+/// Bytes of some blocks, and how many they are.
+type Blocks = (Vec<u8>, usize);
+
+fn rendered(blocks: &[BlockPlan]) -> Blocks {
+    (blocks.iter().flat_map(BlockPlan::render).collect(), blocks.len())
+}
+
+/// The plan, one of its blocks perhaps with a field at either side of a rule, and the number of that block.
+fn with_block(random: &mut Random, plan: &Plan) -> (Plan, usize) {
+    let mut plan = plan.clone();
+    let number = random.below(plan.blocks.len());
+    if random.percent(40) && !(plan.general && number == 0) {
+        plan.blocks[number] = edits::field(random, Shape::of(&plan), &plan.blocks[number]);
+    }
+    (plan, number)
+}
+
+fn rest_of(plan: &Plan, number: usize) -> Rest<'_> {
+    let general = plan.blocks.first().filter(|_| plan.general && number > 0);
+    let first = usize::from(general.is_some());
+    let (before, after) = (&plan.blocks[first..number], &plan.blocks[number + 1..]);
+    Rest { shape: Shape::of(plan), general, before, after, counted: plan.general }
+}
+
+/// A block that stays where it is, in a file and in the same file edited before it, after it, or on both sides.
+pub fn edited(random: &mut Random, plan: &Plan) -> Pair {
+    let (plan, block) = with_block(random, plan);
+    let rest = rest_of(&plan, block);
+    let (edit_before, edit_after) = match (rest.can_before(), rest.can_after()) {
+        (true, true) => random.pick(&[(true, false), (true, true), (false, true)]),
+        sides => sides,
+    };
+    let general = rest.general_block(random, edit_before);
+    let before = if edit_before { rest.as_long_before(random) } else { rendered(rest.before) };
+    let same_count = before.1 == rest.before.len();
+    let after = if edit_after || !same_count { rest.edited_after(random, before.1) } else { rendered(rest.after) };
+    let other_block = usize::from(rest.general.is_some()) + before.1;
+    let other = [general, before.0, plan.blocks[block].render(), after.0].concat();
+    Pair { one: plan.render(), other, block, other_block }
+}
+
+/// A block that is moved, since what stands before it is longer, shorter or gone.
+pub fn moved(random: &mut Random, plan: &Plan) -> Pair {
+    let (plan, block) = with_block(random, plan);
+    let rest = rest_of(&plan, block);
+    let before = rest.any_before(random);
+    let after = if random.percent(50) { rendered(rest.after) } else { rest.edited_after(random, before.1) };
+    let other = [before.0, plan.blocks[block].render(), after.0].concat();
+    Pair { one: plan.render(), other, block, other_block: before.1 }
+}
+
+impl Rest<'_> {
+    /// Whether there is something before the block that may be edited: a block, or data of the general one.
+    fn can_before(&self) -> bool {
+        !self.before.is_empty() || self.general.is_some_and(|general| !general.data.is_empty())
+    }
+
+    /// Whether there may be other blocks after it.
+    fn can_after(&self) -> bool {
+        !self.after.is_empty() || !self.counted
+    }
+
+    /// The general block: its header stays, its data may change.
+    fn general_block(&self, random: &mut Random, edit: bool) -> Vec<u8> {
+        let mut general = self.general.cloned();
+        for block in general.iter_mut().filter(|_| edit) {
+            block.data = edits::pixels(random, &block.data);
+        }
+        general.map_or(vec![], |block| block.render())
+    }
+
+    /// The blocks before, edited in as many bytes; perhaps in another number of blocks.
+    fn as_long_before(&self, random: &mut Random) -> Blocks {
+        let tries = random.pick(&[0, 0, 3]);
+        if let Some(blocks) = (0..tries).find_map(|_| self.other_number(random)) {
+            return blocks;
+        }
+        let number = random.below(self.before.len());
+        let mut bytes = Vec::new();
+        for (other, block) in self.before.iter().enumerate() {
+            let edit = other == number || random.percent(40);
+            bytes.extend(if edit { self.as_long(random, block) } else { block.render() });
+        }
+        (bytes, self.before.len())
+    }
+
+    /// A block edited in as many bytes: other pixels, another block, other keywords.
+    fn as_long(&self, random: &mut Random, block: &BlockPlan) -> Vec<u8> {
+        let bytes = block.render();
+        let header = bytes.len() - block.data.len();
+        let edited = match random.below(4) {
+            0 => Some(BlockPlan { data: edits::pixels(random, &block.data), ..block.clone() }.render()),
+            1 => self.shape.run(random, 1, bytes.len()),
+            _ => {
+                let edited = edits::keywords(random, self.shape, block);
+                self.shape.fitted(random, &edited, header, bytes.len())
+            }
+        };
+        edited.unwrap_or(bytes)
+    }
+
+    /// Another number of blocks in as many bytes; a general header is to count as many blocks in all.
+    fn other_number(&self, random: &mut Random) -> Option<Blocks> {
+        let total = rendered(self.before).0.len();
+        let most = self.before.len() + if self.counted { self.after.len().min(2) } else { 2 };
+        let count = Some(random.from_to(1, most.max(1))).filter(|count| *count != self.before.len() && !self.before.is_empty())?;
+        Some((self.shape.run(random, count, total)?, count))
+    }
+
+    /// The blocks after, edited freely, some taken away, some new. With a general header there are as many as it says.
+    fn edited_after(&self, random: &mut Random, before: usize) -> Blocks {
+        let count = match self.counted {
+            true => self.after.len() + self.before.len() - before,
+            false => (self.after.len() + random.below(4)).saturating_sub(1),
+        };
+        let mut blocks: Vec<BlockPlan> = self.after.iter().map(|block| self.freely(random, block)).collect();
+        while blocks.len() > count {
+            blocks.remove(random.below(blocks.len()));
+        }
+        while blocks.len() < count {
+            let place = random.below(blocks.len() + 1);
+            blocks.splice(place..place, self.shape.new_blocks(random, 1));
+        }
+        rendered(&blocks)
+    }
+
+    /// A block edited freely: keywords, pixels, its length.
+    fn freely(&self, random: &mut Random, block: &BlockPlan) -> BlockPlan {
+        let mut block = match random.below(4) {
+            0 => block.clone(),
+            1 => BlockPlan { data: edits::pixels(random, &block.data), ..block.clone() },
+            2 => self.shape.new_blocks(random, 1).remove(0),
+            _ => edits::keywords(random, self.shape, block),
+        };
+        if random.percent(30) {
+            let length = random.below(300);
+            self.shape.set_data(random, &mut block, length);
+        }
+        block
+    }
+
+    /// Blocks in place of those before, in any number of bytes.
+    fn any_before(&self, random: &mut Random) -> Blocks {
+        let mut blocks = self.before.to_vec();
+        match random.below(4) {
+            0 => blocks.clear(),
+            1 if !blocks.is_empty() => drop(blocks.remove(random.below(blocks.len()))),
+            2 if !blocks.is_empty() => {
+                let (number, length) = (random.below(blocks.len()), random.below(900));
+                self.shape.set_data(random, &mut blocks[number], length);
+            }
+            _ => {
+                let (place, count) = (random.below(blocks.len() + 1), random.from_to(1, 3));
+                blocks.splice(place..place, self.shape.new_blocks(random, count));
+            }
+        }
+        rendered(&blocks)
+    }
+}
