@@ -33,6 +33,7 @@ pub const APART_FAULTS: &[Fault] = &[
     fault("pixel.rs", "let stored = stored(file, block)?;", "let stored = stored(file, block).or_else(|error| stored(file, block + 1).map_err(|_| error))?;"),
     // Positions that do not move with the block, or that tell its start or number.
     fault("keywords.rs", ".map(|s| s.value)", ".map(|s| Span { start: s.value.start - block.header.start, ..s.value })"),
+    fault("keywords.rs", "places_in(b, &sought)", "places_in(b, &sought).into_iter().map(|s| Span { start: s.start + own.header.start - b.header.start, ..s }).collect::<Vec<_>>()"),
     fault("array.rs", "(header.start + header.length, bytes.len())", "(header.length, bytes.len())"),
     fault("keywords.rs", "refuse(18, 0)", "refuse(18, block)"),
     fault("real.rs", "demand(written.in_bounds(), 27, 0)", "demand(written.in_bounds(), 27, block)"),

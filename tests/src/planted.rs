@@ -31,9 +31,10 @@ pub fn print_found(titles: &[Title], readers: &[Reader], seed: u64, cases: usize
 type Question = fn(Reader, u64, usize) -> Option<Box<Breach>>;
 
 /// The laws of keeping blocks apart.
-const LAWS: [(&str, Question); 5] = [
+const LAWS: [(&str, Question); 6] = [
     ("edited", |reader, seed, number| kept_apart(reader, &pair(Law::Edited, seed, number)?).err()),
     ("moved", |reader, seed, number| kept_apart(reader, &pair(Law::Moved, seed, number)?).err()),
+    ("behind", |reader, seed, number| kept_apart(reader, &pair(Law::MovedWithGeneral, seed, number)?).err()),
     ("alone", |reader, seed, number| kept_apart(reader, &pair(Law::Alone, seed, number)?).err()),
     ("joined", |reader, seed, number| {
         let [one, other] = two_of_kind_1(seed, number);

@@ -6,25 +6,27 @@ use Prim.Native.Nat.{ℕ}
 use lib.ListN.{length, take, drop, length-map}
 use lib.Seq.{take-at}
 use Rattle.scan.specs.Outcome.{Outcome, ok, failed}
+use Rattle.scan.specs.declared.Error.{Error}
 use Rattle.scan.specs.declared.Span.{Span}
 use Rattle.text.specs.declared.Written.{Written}
 use Rattle.blocks.specs.Grammar.{Partition, blockOf}
 use Rattle.blocks.specs.declared.Opened.the-variants.{Blocks}
 use Rattle.blocks.specs.declared.Row.{Row}
 use Rattle.locality.specs.Blocks.{AcceptedFile, generalHeader}
-use Rattle.locality.specs.Moved.{movedSpan, movedRow, mapOutcome}
+use Rattle.locality.specs.Moved.{movedSpan, movedFrom, movedRow, mapOutcome}
 use Rattle.keyword.specs.Keyword.{found}
 use Rattle.keyword.specs.Shared.{SharedBlock}
 use Rattle.keyword.specs.declared.Located.{Located}
-use Rattle.keyword.proofs.SharedValues.{value-shared, number-shared, text-shared, found-moved, found-same, same-moved}
+use Rattle.keyword.specs.declared.Located.the-variants as located
+use Rattle.keyword.proofs.SharedValues.{value-shared, number-shared, text-shared, found-moved-from, found-moved, found-same, same-moved}
 use Rattle.stored.specs.Stored.{storedArray}
 use Rattle.stored.specs.declared.Stored.{Stored}
 use Rattle.stored.specs.declared.StoredArray.{StoredArray}
-use Rattle.independence.specs.Moved.{movedLocated, movedArray, movedStored}
+use Rattle.independence.specs.Moved.{movedLocated, movedLocatedFrom, movedArray, movedStored}
 use Rattle.independence.proofs.Arrays.{delivered-shared, pixel-shared, stored-moved, stored-same}
 use Rattle.independence.proofs.Descriptions.{description-shared, real-shared}
 use Rattle.edf.specs.Calls.{IntoBuffer, Open}
-use Rattle.edf.specs.Independence.{Answers, SameAnswers, MovedAnswers}
+use Rattle.edf.specs.Independence.{Answers, SameAnswers, MovedAnswersFrom, MovedAnswers}
 use Rattle.edf.specs.Opening.{Allowed}
 use Rattle.edf.proofs.CallLaws.{locatedBy, located-by, number-by, measured-by, described-by, sampled-by, storedBy, stored-by, same-written}
 use Rattle.edf.proofs.OpeningLaws.{promised}
@@ -55,20 +57,33 @@ pub same-answers : {s t : List ℕ} {k j : ℕ} {row : Row} → SharedBlock s t 
 same-answers b =
     answers 0 (same-moved b) (λ r. r) (λ r. r) (λ key. ap locatedBy (found-same b key)) (λ order. ap storedBy (stored-same b order))
 
-located-moved : (n : ℕ) (o : Outcome Span) → locatedBy (mapOutcome (movedSpan n) o) ≡ movedLocated n (locatedBy o)
-located-moved n (ok p) = refl
-located-moved n (failed e) = refl
+-- The variant of an outcome that is mapped.
+located-map : (f : Span → Span) (g : Located → Located) → ((p : Span) → g (located.At p) ≡ located.At (f p)) → ((e : Error) → g (located.Failed e) ≡ located.Failed e)
+    → (o : Outcome Span) → locatedBy (mapOutcome f o) ≡ g (locatedBy o)
+located-map f g at fails (ok p) = sym (at p)
+located-map f g at fails (failed e) = sym (fails e)
 
-stored-by-moved : (n : ℕ) (o : Outcome StoredArray) → storedBy (mapOutcome (movedArray n) o) ≡ movedStored n (storedBy o)
-stored-by-moved n (ok a) = refl
-stored-by-moved n (failed e) = refl
+stored-map : (n : ℕ) (o : Outcome StoredArray) → storedBy (mapOutcome (movedArray n) o) ≡ movedStored n (storedBy o)
+stored-map n (ok a) = refl
+stored-map n (failed e) = refl
 
-pub moved-answers : (n : ℕ) {s t : List ℕ} {k j : ℕ} {row : Row} (b : SharedBlock s t k j row (movedRow n row)) → generalHeader s (b .rows) ≡ none
-    → MovedAnswers n s t k j
-moved-answers n {s} {k = k} b g =
-    answers n b (movedLocated n) (movedStored n)
-    (λ key. ap locatedBy (found-moved n b key g) ∙ located-moved n (found s k key))
-    (λ order. ap storedBy (stored-moved n b order) ∙ stored-by-moved n (storedArray s k order))
+module _ (n : ℕ) {s t : List ℕ} {k j : ℕ} {row : Row} (b : SharedBlock s t k j row (movedRow n row)) where
+  stores-moved : (order : ℕ) → storedBy (storedArray t j order) ≡ movedStored n (storedBy (storedArray s k order))
+  stores-moved order = ap storedBy (stored-moved n b order) ∙ stored-map n (storedArray s k order)
+
+  pub moved-answers-from : MovedAnswersFrom (row .start) n s t k j
+  moved-answers-from =
+      let start = row .start in
+      answers n b (movedLocatedFrom start n) (movedStored n)
+      (λ key. ap locatedBy (found-moved-from n b key)
+      ∙ located-map (movedFrom start n) (movedLocatedFrom start n) (λ p. refl) (λ e. refl) (found s k key))
+      stores-moved
+
+  pub moved-answers : generalHeader s (b .rows) ≡ none → MovedAnswers n s t k j
+  moved-answers g =
+      answers n b (movedLocated n) (movedStored n)
+      (λ key. ap locatedBy (found-moved n b key g) ∙ located-map (movedSpan n) (movedLocated n) (λ p. refl) (λ e. refl) (found s k key))
+      stores-moved
 
 -- ---- What `open` accepts
 

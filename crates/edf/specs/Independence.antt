@@ -10,7 +10,7 @@ use Rattle.reals.specs.declared.Measured.{Measured}
 use Rattle.description.specs.declared.Described.{Described}
 use Rattle.array.specs.declared.Sampled.{Sampled}
 use Rattle.stored.specs.declared.Stored.{Stored}
-use Rattle.independence.specs.Moved.{movedLocated, movedStored}
+use Rattle.independence.specs.Moved.{movedLocated, movedLocatedFrom, movedStored}
 use Rattle.edf.specs.Calls.{Find, WholeNumber, ReadReal, Text, Describe, Stores, ReadArray, ReadPixel}
 
 -- Any call on block k of the file s, and the same call on block j of the file t, answer the same, in an error too, and leave the same in a
@@ -33,6 +33,10 @@ pub record Answers (s t : List ℕ) (k j : ℕ) (place : Located → Located) (s
 abbrev pub SameAnswers : List ℕ → List ℕ → ℕ → ℕ → Type 0
 SameAnswers s t k j = Answers s t k j (λ r. r) (λ r. r)
 
--- The same, with spans moved by n.
+-- The same, with spans from the offset `start` on moved by n: those before it, in the general header, stay.
+abbrev pub MovedAnswersFrom : ℕ → ℕ → List ℕ → List ℕ → ℕ → ℕ → Type 0
+MovedAnswersFrom start n s t k j = Answers s t k j (movedLocatedFrom start n) (movedStored n)
+
+-- The same, with all spans moved by n.
 abbrev pub MovedAnswers : ℕ → List ℕ → List ℕ → ℕ → ℕ → Type 0
 MovedAnswers n s t k j = Answers s t k j (movedLocated n) (movedStored n)

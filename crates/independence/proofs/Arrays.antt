@@ -12,15 +12,18 @@ use Rattle.header.proofs.Leading.{part-between}
 use Rattle.blocks.specs.declared.Row.{Row}
 use Rattle.blocks.proofs.Complete.{opened-complete}
 use Rattle.locality.specs.Moved.{movedRow, mapOutcome}
+use Rattle.locality.proofs.Outcomes.{map-same}
+use Rattle.locality.proofs.Rows.{span-unmoved}
 use Rattle.keyword.specs.Keyword.{View, viewOf}
 use Rattle.keyword.specs.Shared.{SharedBlock}
 use Rattle.keyword.proofs.Shared.{movedView, view-moved}
-use Rattle.keyword.proofs.SharedValues.{view-same}
+use Rattle.keyword.proofs.SharedValues.{same-moved}
 use Rattle.keyword.proofs.Views.{view-seen}
 use Rattle.description.specs.Describe.{descriptionIn}
 use Rattle.description.specs.declared.Description.{Description}
 use Rattle.array.specs.Delivery.{dataOf, isOrder, arrayOf, arrayIn, pixelIn}
 use Rattle.stored.specs.Stored.{storedWith, storedArray}
+use Rattle.stored.specs.declared.StoredArray.{StoredArray}
 use Rattle.independence.specs.Moved.{movedArray}
 use Rattle.independence.proofs.Descriptions.{description-moved}
 
@@ -41,7 +44,7 @@ module _ (n : ℕ) {s t : List ℕ} {k j : ℕ} {row : Row} (b : SharedBlock s t
       let q : some (v .row) ≡ some row = sym (x .at) ∙ ap (λ (l : List Row). getElem? l k) p ∙ b .at in
       cc
 
-  data-shared : (v : View) → viewOf s k ≡ ok v → dataOf t (movedView n (λ es. es) v) ≡ dataOf s v
+  data-shared : (v : View) → viewOf s k ≡ ok v → dataOf t (movedView n v) ≡ dataOf s v
   data-shared v e = rw (view-row v e) (sym (rest-same (row .start) (n + row .start) (row .header) (row .size) s t (b .bytes)))
 
   pub array-shared : arrayOf t j ≡ arrayOf s k
@@ -75,6 +78,8 @@ module _ (n : ℕ) {s t : List ℕ} {k j : ℕ} {row : Row} (b : SharedBlock s t
       (by-outcome (descriptionIn v) (λ d f. rw f (stored-with (v .row .start + v .row .header) d asked)) (λ x f. rw f)))
       (λ x e. rw e))
 
+array-unmoved : (a : StoredArray) → movedArray 0 a ≡ a
+array-unmoved a = λ i. record { description = a .description; span = span-unmoved (a .span) i; delivered = a .delivered }
+
 pub stored-same : {s t : List ℕ} {k j : ℕ} {row : Row} → SharedBlock s t k j row row → (asked : ℕ) → storedArray t j asked ≡ storedArray s k asked
-unfolding storedArray
-stored-same b asked = rw (view-same b)
+stored-same {s} {k = k} b asked = stored-moved 0 (same-moved b) asked ∙ map-same (movedArray 0) array-unmoved (storedArray s k asked)

@@ -18,7 +18,7 @@ use Rattle.quantities.specs.Real.{realIn}
 use Rattle.quantities.proofs.ReadLaws.{real-by}
 
 -- A description sees values and origins, and no spans.
-pub description-moved : (n : ℕ) (v : View) → descriptionIn (movedView n (λ es. es) v) ≡ descriptionIn v
+pub description-moved : (n : ℕ) (v : View) → descriptionIn (movedView n v) ≡ descriptionIn v
 unfolding descriptionIn
 description-moved n v = λ i. require (eqb (v .row .kind) 1) 16 0
     >> described (λ name. value-moved n v name i) (originsFrom (byName (λ name. origin-moved n v name i))) (v .row .size)
@@ -26,7 +26,7 @@ description-moved n v = λ i. require (eqb (v .row .kind) 1) 16 0
 module _ (n : ℕ) {s t : List ℕ} {k j : ℕ} {row : Row} (b : SharedBlock s t k j row (movedRow n row)) where
   pub description-shared : descriptionOf t j ≡ descriptionOf s k
   unfolding descriptionOf
-  description-shared = rw (view-moved n b) (bind-map (movedView n (λ es. es)) descriptionIn descriptionIn (description-moved n) (viewOf s k))
+  description-shared = rw (view-moved n b) (bind-map (movedView n) descriptionIn descriptionIn (description-moved n) (viewOf s k))
 
   pub real-shared : (name : List ℕ) → realIn t j name ≡ realIn s k name
   real-shared name = rw (real-by t j name, real-by s k name, value-shared n b name)

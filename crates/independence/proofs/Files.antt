@@ -14,7 +14,7 @@ use Rattle.locality.proofs.Joined.{files-joined, joined-general}
 use Rattle.locality.proofs.KindLaws.{plain-general, rules-general, row-kind}
 use Rattle.locality.proofs.Rows.{member-at, front-at, back-at, map-at}
 use Rattle.locality.proofs.Searches.{bytes-shift}
-use Rattle.keyword.specs.Shared.{SameBlock, MovedBlock}
+use Rattle.keyword.specs.Shared.{SameBlock, MovedPlainBlock}
 
 -- ---- Two files end to end
 
@@ -43,7 +43,7 @@ module _ (s t : List ℕ) {rows others : List Row} (j : Joinable s t rows others
       )
 
   -- and one of the second.
-  pub second-shared : (k : ℕ) {row : Row} → getElem? others k ≡ some row → MovedBlock (length s) t (s ++ t) k (length rows + k)
+  pub second-shared : (k : ℕ) {row : Row} → getElem? others k ≡ some row → MovedPlainBlock (length s) t (s ++ t) k (length rows + k)
   second-shared k {row} e = (
     row,
     record {
@@ -74,7 +74,7 @@ module _ {s : List ℕ} {k : ℕ} {row : Row} (a : AloneBlock s k row) where
   alone-row : movedRow (row .start) (startingAt 0 row) ≡ row
   alone-row = let z : row .start + 0 ≡ row .start = omega arith in ap (λ (k : ℕ). startingAt k row) z
 
-  pub alone-shared : MovedBlock (row .start) (blockBytes s row) s 0 k
+  pub alone-shared : MovedPlainBlock (row .start) (blockBytes s row) s 0 k
   alone-shared =
       let n = row .header + row .size in (
         startingAt 0 row,

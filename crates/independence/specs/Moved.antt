@@ -1,16 +1,21 @@
 -- The answers that have a span of the file, with the span moved by n.
 use Prim.Native.Nat.{ℕ}
-use Rattle.locality.specs.Moved.{movedSpan}
+use Rattle.locality.specs.Moved.{movedSpan, movedFrom}
 use Rattle.keyword.specs.declared.Located.{Located}
 use Rattle.keyword.specs.declared.Located.the-variants as located
 use Rattle.stored.specs.declared.Stored.{Stored}
 use Rattle.stored.specs.declared.Stored.the-variants as stored
 use Rattle.stored.specs.declared.StoredArray.{StoredArray}
 
--- Of `find`.
+-- Of `find`,
 abbrev pub movedLocated : ℕ → Located → Located
 movedLocated n (located.At p) = located.At (movedSpan n p)
 movedLocated n (located.Failed e) = located.Failed e
+
+-- and with the spans before the offset `start` as they are.
+abbrev pub movedLocatedFrom : ℕ → ℕ → Located → Located
+movedLocatedFrom start n (located.At p) = located.At (movedFrom start n p)
+movedLocatedFrom start n (located.Failed e) = located.Failed e
 
 -- Of `stored_array`.
 abbrev pub movedArray : ℕ → StoredArray → StoredArray

@@ -9,7 +9,7 @@ use lib.Dec.{eqb}
 use lib.ListN.{length, take, getElem?}
 use lib.Seq.{take-take}
 use Rattle.scan.specs.Chain.{Chain}
-use Rattle.scan.specs.Outcome.{Outcome, ok, failed}
+use Rattle.scan.specs.Outcome.{Outcome, ok, _>>=_}
 use Rattle.scan.proofs.Cases.{by-test, by-outcome}
 use Rattle.header.specs.Entry.{Entry}
 use Rattle.header.specs.declared.Header.{Header}
@@ -17,7 +17,6 @@ use Rattle.header.specs.declared.Statement.{Statement}
 use Rattle.header.proofs.FrameLaws.{header-complete}
 use Rattle.header.proofs.StatementLaws.{statements-complete}
 use Rattle.blocks.specs.Grammar.{Rules, HasHeader, IsBlock, Partition}
-use Rattle.blocks.specs.Opening.{openedFile}
 use Rattle.blocks.specs.declared.Row.{Row}
 use Rattle.blocks.proofs.Answers.{file-accepted}
 use Rattle.blocks.proofs.BlockLaws.{said-once}
@@ -31,17 +30,17 @@ use Rattle.keyword.specs.Keyword.{View, entriesAt, generalEntries, viewO
 use Rattle.keyword.specs.Shared.{SharedBlock}
 
 -- What a header says.
-said : {s : List ℕ} {a : ℕ} {h : Header} {ts : List Statement} {es : List Entry} → HasHeader s a h ts es → entriesAt s a ≡ ok es
+pub said : {s : List ℕ} {a : ℕ} {h : Header} {ts : List Statement} {es : List Entry} → HasHeader s a h ts es → entriesAt s a ≡ ok es
 unfolding entriesAt
 said {s} {a} {h} x = rw (header-complete (x .header), statements-complete s a h (x .parse)) (ap ok (sym (said-once x)))
 
 -- ---- The block's own header
 
 -- It says what it says in the block's bytes alone, with the spans moved by the block's start.
-record OwnHeader (s : List ℕ) (row : Row) : Type 0 where
-  entries : List Entry
-  alone : entriesAt (blockBytes s row) 0 ≡ ok entries
-  here : entriesAt s (row .start) ≡ ok (map (movedEntry (row .start)) entries)
+pub record OwnHeader (s : List ℕ) (row : Row) : Type 0 where
+  pub entries : List Entry
+  pub alone : entriesAt (blockBytes s row) 0 ≡ ok entries
+  pub here : entriesAt s (row .start) ≡ ok (map (movedEntry (row .start)) entries)
 
 own-header : {s : List ℕ} {rows : List Row} → Partition s rows → (k : ℕ) {row : Row} → getElem? rows k ≡ some row → OwnHeader s row
 own-header {s} {rows} c k {row} e =
@@ -61,7 +60,7 @@ moved-twice n a (e ∷ es) =
 -- ---- The general header
 
 -- By the bytes of the general header, if there is one.
-abbrev generalBy : ℕ → Option (List ℕ) → Outcome (List Entry)
+abbrev pub generalBy : ℕ → Option (List ℕ) → Outcome (List Entry)
 generalBy kind none = ok []
 generalBy kind (some bytes) = cond (eqb kind 1) (entriesAt bytes 0) (ok [])
 
@@ -71,7 +70,7 @@ first-said {s} {row = row} b =
     ∙ sym (said (has-local (row .header) s (take (row .header) s) (sym (take-take (row .header) (row .header) s (omega arith)))
     (omega (arith, b .length-is)) (b .stands)))
 
-general-by : {s : List ℕ} {rows : List Row} → Partition s rows → (row : Row) → generalEntries s rows row ≡ generalBy (row .kind) (generalHeader s rows)
+pub general-by : {s : List ℕ} {rows : List Row} → Partition s rows → (row : Row) → generalEntries s rows row ≡ generalBy (row .kind) (generalHeader s rows)
 unfolding generalEntries
 general-by {s} {rows} c row = go rows (c .blocks) (c .not-empty)
   where
@@ -85,48 +84,42 @@ general-by {s} {rows} c row = go rows (c .blocks) (c .not-empty)
 
 -- ---- The view
 
--- A view of the block where it starts n bytes later, with `move` for the general header's entries.
-abbrev pub movedView : ℕ → (List Entry → List Entry) → View → View
-movedView n move v = record { row = movedRow n (v .row); own = map (movedEntry n) (v .own); general = move (v .general) }
+-- The view of the block where it starts n bytes later: the general header stays.
+abbrev pub movedView : ℕ → View → View
+movedView n v = record { row = movedRow n (v .row); own = map (movedEntry n) (v .own); general = v .general }
 
-opens : {s : List ℕ} {rows : List Row} → AcceptedFile s rows → openedFile s ≡ ok rows
-opens {s} f = file-accepted s (f .small) .1 (f .partition)
+-- A block of an accepted file, by what its own header says alone.
+module _ {s : List ℕ} {rows : List Row} (f : AcceptedFile s rows) (k : ℕ) {row : Row} (at : getElem? rows k ≡ some row) where
+  pub own : OwnHeader s row
+  own = own-header (f .partition) k at
+
+  abbrev pub viewWith : List Entry → View
+  viewWith general = record { row = row; own = map (movedEntry (row .start)) (own .entries); general = general }
+
+  pub view-is : viewOf s k ≡ (generalEntries s rows row >>= λ g. ok (viewWith g))
+  unfolding viewOf
+  view-is = rw (file-accepted s (f .small) .1 (f .partition), at, own .here)
 
 module _ (n : ℕ) {s t : List ℕ} {k j : ℕ} {row : Row} (b : SharedBlock s t k j row (movedRow n row)) where
-  here : OwnHeader s row
-  here = own-header (b .file .partition) k (b .at)
+  abbrev here : OwnHeader s row
+  here = own (b .file) k (b .at)
 
-  own-moved : entriesAt t (n + row .start) ≡ ok (map (movedEntry n) (map (movedEntry (row .start)) (here .entries)))
-  own-moved =
-      let there : OwnHeader t (movedRow n row) = own-header (b .other-file .partition) j (b .other-at) in
+  abbrev there : OwnHeader t (movedRow n row)
+  there = own (b .other-file) j (b .other-at)
+
+  own-same : there .entries ≡ here .entries
+  own-same =
       let e : ok (there .entries) ≡ ok (here .entries) = sym (there .alone) ∙ ap (λ (l : List ℕ). entriesAt l 0) (sym (b .bytes)) ∙ here .alone in
-      let p : there .entries ≡ here .entries = cc in
-      there .here ∙ ap (λ (es : List Entry). ok (map (movedEntry (n + row .start)) es)) p
-      ∙ ap ok (moved-twice n (row .start) (here .entries))
+      cc
 
-  view-by : (move : List Entry → List Entry)
-      → generalEntries t (b .others) (movedRow n row) ≡ mapOutcome move (generalEntries s (b .rows) row)
-      → viewOf t j ≡ mapOutcome (movedView n move) (viewOf s k)
-  unfolding viewOf
-  view-by move e =
-      rw (opens (b .file), opens (b .other-file), b .at, b .other-at, here .here, own-moved, e)
+  general-same : generalEntries t (b .others) (movedRow n row) ≡ generalEntries s (b .rows) row
+  general-same =
+      general-by (b .other-file .partition) (movedRow n row) ∙ ap (generalBy (row .kind)) (sym (b .general))
+      ∙ sym (general-by (b .file .partition) row)
+
+  pub view-moved : viewOf t j ≡ mapOutcome (movedView n) (viewOf s k)
+  view-moved =
+      let e : map (movedEntry (n + row .start)) (there .entries) ≡ map (movedEntry n) (map (movedEntry (row .start)) (here .entries)) =
+      ap (map (movedEntry (n + row .start))) own-same ∙ moved-twice n (row .start) (here .entries) in
+      rw (view-is (b .other-file) j (b .other-at), view-is (b .file) k (b .at), general-same, e)
       (by-outcome (generalEntries s (b .rows) row) (λ g f. rw f) (λ x f. rw f))
-
-  -- With the same general header or none in either,
-  pub view-moved : viewOf t j ≡ mapOutcome (movedView n (λ es. es)) (viewOf s k)
-  view-moved = view-by (λ es. es) (general-same ∙ kept (generalEntries s (b .rows) row))
-    where
-      general-same : generalEntries t (b .others) (movedRow n row) ≡ generalEntries s (b .rows) row
-      general-same =
-          general-by (b .other-file .partition) (movedRow n row)
-          ∙ ap (generalBy (row .kind)) (sym (b .general)) ∙ sym (general-by (b .file .partition) row)
-
-      kept : (o : Outcome (List Entry)) → o ≡ mapOutcome (λ es. es) o
-      kept (ok es) = refl
-      kept (failed e) = refl
-
-  -- and with none every span is moved.
-  pub view-moved-whole : generalHeader s (b .rows) ≡ none → viewOf t j ≡ mapOutcome (movedView n (map (movedEntry n))) (viewOf s k)
-  view-moved-whole g =
-      view-by (map (movedEntry n))
-      (rw (general-by (b .other-file .partition) (movedRow n row), general-by (b .file .partition) row, sym (b .general), g))

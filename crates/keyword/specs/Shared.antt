@@ -24,6 +24,10 @@ pub record SharedBlock (s t : List ℕ) (k j : ℕ) (row other : Row) : Type 0 w
 abbrev pub SameBlock : List ℕ → List ℕ → ℕ → ℕ → Type 0
 SameBlock s t k j = (row : Row) × SharedBlock s t k j row row
 
--- The block starts n bytes later in the file t, and there is no general header.
+-- The block starts n bytes later in the file t,
 abbrev pub MovedBlock : ℕ → List ℕ → List ℕ → ℕ → ℕ → Type 0
-MovedBlock n s t k j = (row : Row) × (b : SharedBlock s t k j row (movedRow n row)) × (generalHeader s (b .rows) ≡ none)
+MovedBlock n s t k j = (row : Row) × SharedBlock s t k j row (movedRow n row)
+
+-- and there is no general header.
+abbrev pub MovedPlainBlock : ℕ → List ℕ → List ℕ → ℕ → ℕ → Type 0
+MovedPlainBlock n s t k j = (row : Row) × (b : SharedBlock s t k j row (movedRow n row)) × (generalHeader s (b .rows) ≡ none)

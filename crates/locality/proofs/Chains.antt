@@ -1,7 +1,9 @@
--- Chains that are moved, and chains end to end.
+-- Chains that are moved, chains end to end, and where the things in a chain stand.
 use mathlib.Core.Path.{_≡_, ap}
-use mathlib.Core.List.{List, [], _∷_, _++_, map}
-use Prim.Native.Nat.{ℕ, _+_}
+use mathlib.Core.Logic.{⊎-elim}
+use mathlib.Core.List.{List, [], _∷_, _++_, map, List·Memᴰ, List·Memᴰ·not-nil, List·Memᴰ·cases-cons}
+use Prim.Native.Nat.{ℕ, _+_, _≤_, _<_}
+use native.Mathlib.Omega.{arith}
 use Rattle.scan.specs.Chain.{Chain}
 
 -- Links that hold where they are moved by n make a chain there.
@@ -16,3 +18,15 @@ module _ {A : Type 0} (Link : ℕ → A → ℕ → Type 0) (Stop : ℕ → Type
   pub chain-joined : (from : ℕ) (xs : List A) → Chain Link (λ at. at ≡ middle) from xs → Chain Link Stop from (xs ++ ys)
   chain-joined from [] c = rw c rest
   chain-joined from (x ∷ xs) c = (c .0, c .1, chain-joined (c .0) xs (c .2))
+
+-- Each of the things in a chain stands behind where the chain starts.
+module _ {A : Type 0} (Link : ℕ → A → ℕ → Type 0) (Stop : ℕ → Type 0) (on : (at : ℕ) (x : A) (next : ℕ) → Link at x next → at < next) where
+  pub chain-behind : (from : ℕ) (xs : List A) {x : A} → Chain Link Stop from xs → List·Memᴰ x xs
+      → (at : ℕ) × (next : ℕ) × (from ≤ at) × Link at x next
+  chain-behind from [] c m = absurd (List·Memᴰ·not-nil m)
+  chain-behind from (y ∷ ys) c m =
+      ⊎-elim (λ e. (from, c .0, omega arith, rw e (c .1)))
+      (λ t.
+      let r = chain-behind (c .0) ys (c .2) t in
+      (r .0, r .1, omega (arith, r .2, on from y (c .0) (c .1)), r .3))
+      (List·Memᴰ·cases-cons m)

@@ -1,13 +1,14 @@
--- Rows by their numbers, in lists that are moved and joined; and rows that are moved by nothing.
+-- Rows by their numbers, in lists that are moved and joined; rows and spans that are moved by nothing.
 use mathlib.Core.Path.{_≡_, sym, ap}
 use mathlib.Core.List.{List, [], _∷_, _++_, map, List·Memᴰ, List·Memᴰ·head, List·Memᴰ·tail}
 use mathlib.Core.Option.{some, Option·some-injective}
 use Prim.Native.Nat.{ℕ, zero, suc, _+_}
 use native.Mathlib.Omega.{arith}
 use lib.ListN.{length, getElem?}
+use Rattle.scan.specs.declared.Span.{Span}
 use Rattle.scan.proofs.Cases.{none-some}
 use Rattle.blocks.specs.declared.Row.{Row}
-use Rattle.locality.specs.Moved.{startingAt, movedRow}
+use Rattle.locality.specs.Moved.{movedSpan, startingAt, movedRow}
 
 module _ {A : Type 0} where
   pub member-at : (l : List A) (k : ℕ) {x : A} → getElem? l k ≡ some x → List·Memᴰ x l
@@ -33,3 +34,6 @@ module _ {A : Type 0} where
 
 pub row-unmoved : (row : Row) → movedRow 0 row ≡ row
 row-unmoved row = let z : 0 + row .start ≡ row .start = omega arith in ap (λ (k : ℕ). startingAt k row) z
+
+pub span-unmoved : (p : Span) → movedSpan 0 p ≡ p
+span-unmoved p = let z : 0 + p .offset ≡ p .offset = omega arith in λ i. record { offset = z i; length = p .length }

@@ -1,5 +1,7 @@
 -- What stands in a file, with its offsets moved by n: as it stands where n bytes more come before it.
+use mathlib.Core.Bool.{cond}
 use Prim.Native.Nat.{ℕ, _+_}
+use lib.Dec.{leb}
 use Rattle.scan.specs.Outcome.{Outcome, ok, failed, errorAt}
 use Rattle.scan.specs.declared.Error.{Error}
 use Rattle.scan.specs.declared.Span.{Span}
@@ -11,6 +13,10 @@ use Rattle.blocks.specs.declared.Row.{Row}
 
 abbrev pub movedSpan : ℕ → Span → Span
 movedSpan n p = record { offset = n + p .offset; length = p .length }
+
+-- Spans from the offset `start` on are moved; those before it stay.
+abbrev pub movedFrom : ℕ → ℕ → Span → Span
+movedFrom start n p = cond (leb start (p .offset)) (movedSpan n p) p
 
 -- The same code.
 abbrev pub movedError : ℕ → Error → Error

@@ -60,16 +60,24 @@ pub fn of_kind_1(rows: &[Row]) -> bool {
     rows.iter().all(|row| row.kind == 1 && row.instance == 0)
 }
 
-/// How far the block moves from the first file to the second, where the law's condition holds: both files are accepted, the block has the
-/// same row and the same bytes, and the general headers are the same, or there is none. A block may start elsewhere if there is none.
-pub fn shift(reader: Reader, pair: &Pair) -> Option<isize> {
+/// How positions move from the first file to the second: those from an offset on, by so much.
+#[derive(Clone, Copy, Debug, PartialEq)]
+pub struct Shift {
+    pub from: usize,
+    pub by: isize,
+}
+
+/// How positions move, where the law's condition holds: both files are accepted, the block has the same row but for its start and the same
+/// bytes, and the general headers are the same, or there is none. What stands in a general header stays.
+pub fn shift(reader: Reader, pair: &Pair) -> Option<Shift> {
     let (one, other) = (opened(reader, &pair.one)?, opened(reader, &pair.other)?);
     let (row, moved) = (one.get(pair.block)?, other.get(pair.other_block)?);
     let same_row = Row { start: 0, ..*row } == Row { start: 0, ..*moved };
     let same_bytes = bytes_of(&pair.one, row)? == bytes_of(&pair.other, moved)?;
     let (header, same) = (general_header(&pair.one, &one), general_header(&pair.other, &other));
-    let shift = moved.start as isize - row.start as isize;
-    (same_row && same_bytes && header == same && (shift == 0 || header.is_none())).then_some(shift)
+    let from = if header.is_none() { 0 } else { row.start };
+    let by = moved.start as isize - row.start as isize;
+    (same_row && same_bytes && header == same).then_some(Shift { from, by })
 }
 
 /// The law of two files: all that is answered on the block is the same; positions move with the block. None where the condition does not hold.
@@ -92,8 +100,8 @@ pub fn end_to_end(reader: Reader, one: &[u8], other: &[u8]) -> Result<Option<Ans
     let mut answered = vec![rows_joined(reader, &file, &joined(&first, &second, one.len()))?];
     for number in asked(first.len(), second.len()) {
         let (part, block, shift) = match number.checked_sub(first.len()) {
-            None => (one, number, 0),
-            Some(block) => (other, block, one.len() as isize),
+            None => (one, number, Shift { from: 0, by: 0 }),
+            Some(block) => (other, block, Shift { from: 0, by: one.len() as isize }),
         };
         let calls = calls_on(part, block, &file, number);
         answered.extend(same(answers(reader, part, block, &calls), answers(reader, &file, number, &calls), shift)?);
@@ -147,7 +155,7 @@ fn on_block(call: &Call, number: usize) -> Call {
 }
 
 /// The answers of the first file, if those of the second are the same once positions are moved.
-fn same(one: Answered, other: Answered, shift: isize) -> Result<Answered, Box<Breach>> {
+fn same(one: Answered, other: Answered, shift: Shift) -> Result<Answered, Box<Breach>> {
     for ((_, expected), (call, given)) in one.iter().zip(&other) {
         let expected = moved(expected, shift);
         if *given != expected || matches!(expected, Answer::Broken(_)) {
@@ -159,10 +167,10 @@ fn same(one: Answered, other: Answered, shift: isize) -> Result<Answered, Box<Br
 }
 
 /// An answer with its position in the file moved.
-fn moved(answer: &Answer, shift: isize) -> Answer {
+fn moved(answer: &Answer, shift: Shift) -> Answer {
     let mut answer = answer.clone();
     match &mut answer {
-        Answer::Place { start, .. } | Answer::Stored { start, .. } => *start = start.wrapping_add_signed(shift),
+        Answer::Place { start, .. } | Answer::Stored { start, .. } if *start >= shift.from => *start = start.wrapping_add_signed(shift.by),
         _ => (),
     }
     answer
@@ -223,9 +231,9 @@ mod tests {
 
     #[test]
     fn the_laws_hold_of_the_second_reader() {
-        for law in [Law::Edited, Law::Moved, Law::Alone] {
+        for law in [Law::Edited, Law::Moved, Law::MovedWithGeneral, Law::Alone] {
             let [kept, broken, unasked] = outcomes(SECOND, law);
-            assert!(kept >= 40 && broken == 0 && unasked == 0, "{law:?}: {kept}, {broken}, {unasked}");
+            assert!(kept >= 30 && broken == 0 && unasked == 0, "{law:?}: {kept}, {broken}, {unasked}");
         }
         assert_eq!(outcomes_joined(SECOND), [20, 0, 0]);
     }
@@ -235,6 +243,7 @@ mod tests {
         assert!(outcomes(also_before, Law::Edited)[1] > 2);
         assert!(outcomes(also_before, Law::Moved)[1] > 2);
         assert!(outcomes(wrapped, Law::Moved)[1] > 2);
+        assert!(outcomes(wrapped, Law::MovedWithGeneral)[1] > 2);
         assert!(outcomes_joined(also_before)[1] > 2);
         assert!(outcomes(wrapped, Law::Alone)[1] > 2);
         assert!(outcomes_joined(near)[1] > 2);

@@ -1,10 +1,11 @@
-//! A block that stands elsewhere in another file, neither of them with a general header: all is answered alike, but positions move with the block.
+//! A block that stands elsewhere in another file: all is answered alike, but positions move with the block. Those in a general header stay.
 
 use crate::run::{kind, reached, rows, run, Shown};
 use edf_tests::apart::Pair;
 use edf_tests::generate::pairs::Law;
 
 const PAIRS: usize = 3_500;
+const PAIRS_WITH_GENERAL: usize = 1_500;
 
 fn ways(pair: &Pair) -> Shown {
     let (one, other) = (rows(&pair.one), rows(&pair.other));
@@ -27,4 +28,15 @@ const WANTED: [(&str, usize); 14] = [
 fn a_block_that_is_moved_is_answered_alike_but_for_positions() {
     let counts = run(Law::Moved, PAIRS, ways);
     reached("moved", PAIRS, &counts, &WANTED);
+}
+
+const WANTED_WITH_GENERAL: [(&str, usize); 9] = [
+    ("kept", 1_400), ("kind 2 with a general header", 1_400), ("moved on", 600), ("moved back", 600), ("found in the own header", 1_400),
+    ("found in the general header", 1_200), ("origin own", 1_000), ("origin general", 600), ("origin default", 1_000),
+];
+
+#[test]
+fn a_block_that_is_moved_behind_a_general_header_is_answered_alike_but_for_its_own_positions() {
+    let counts = run(Law::MovedWithGeneral, PAIRS_WITH_GENERAL, ways);
+    reached("moved with a general header", PAIRS_WITH_GENERAL, &counts, &WANTED_WITH_GENERAL);
 }

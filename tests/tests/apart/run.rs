@@ -8,7 +8,7 @@ use edf_tests::reader::{Origin, Row};
 use std::collections::{BTreeMap, BTreeSet};
 
 /// How many pairs all tests draw together unless EDF_PAIRS says otherwise; each test has its share.
-const ALL: usize = 24_000;
+const ALL: usize = 25_500;
 
 /// What a pair shows.
 pub type Shown = BTreeSet<String>;
@@ -47,8 +47,8 @@ pub fn run(law: Law, pairs: usize, also: fn(&Pair) -> Shown) -> Counts {
         None => Shown::from(["dropped".to_string()]),
         Some(pair) => match kept_apart(library, &pair) {
             Ok(Some(answered)) => {
-                spans_in_headers(&pair, &answered);
-                also(&pair).into_iter().chain(shown(&answered)).collect()
+                let headers = spans_in_headers(&pair, &answered);
+                also(&pair).into_iter().chain(shown(&answered)).chain(headers).collect()
             }
             Ok(None) => panic!("{law:?}, seed {}, pair {number}: the library refuses a file, or gives another row", seed()),
             Err(breach) => panic!("{law:?}, seed {}, pair {number}: {breach}", seed()),
@@ -57,16 +57,20 @@ pub fn run(law: Law, pairs: usize, also: fn(&Pair) -> Shown) -> Counts {
     counted(parallel::for_each(0..share(pairs), of_pair))
 }
 
-/// What is found stands in the block's own header or in the general one, so never in another block.
-fn spans_in_headers(pair: &Pair, answered: &Answered) {
+/// What is found stands in the block's own header or in the general one, so never in another block: in which of them something is.
+fn spans_in_headers(pair: &Pair, answered: &Answered) -> Shown {
     let rows = rows(&pair.one);
+    let mut shown = Shown::new();
     let general = rows.first().filter(|row| row.kind == 0);
     let headers: Vec<_> = general.into_iter().chain([&rows[pair.block]]).map(|row| row.start..row.start + row.header_length).collect();
     for (call, answer) in answered {
         if let Answer::Place { start, length } = answer {
             assert!(headers.iter().any(|header| header.contains(start) && start + length < header.end), "{call:?}: {answer:?}");
+            let own = rows[pair.block].start <= *start;
+            shown.insert(if own { "found in the own header" } else { "found in the general header" }.to_string());
         }
     }
+    shown
 }
 
 pub fn counted(all: Vec<Shown>) -> Counts {

@@ -1,6 +1,7 @@
 -- The main theorems about blocks apart and files end to end (02, No. 3), stated of the calls as Main states them. `AcceptedFile`, `Joinable`
--- and `AloneBlock` say of which files (crates/locality/specs/Blocks), `SameBlock` and `MovedBlock` of which blocks of two files
--- (crates/keyword/specs/Shared), `SameAnswers` and `MovedAnswers` what each call answers (specs/Independence).
+-- and `AloneBlock` say of which files (crates/locality/specs/Blocks), `SameBlock`, `MovedBlock` and `MovedPlainBlock` of which
+-- blocks of two files (crates/keyword/specs/Shared), `SameAnswers`, `MovedAnswersFrom` and `MovedAnswers` what each call answers
+-- (specs/Independence).
 use mathlib.Core.Path.{_≡_, subst}
 use mathlib.Core.List.{List, [], _∷_, _++_}
 use mathlib.Core.Option.{none, some}
@@ -18,8 +19,8 @@ use Rattle.blocks.specs.Grammar.{Partition}
 use Rattle.blocks.specs.Limits.{blockLimit}
 use Rattle.locality.specs.Blocks.{AcceptedFile, blockBytes, generalHeader, Joinable, joinedRows, AloneBlock}
 use Rattle.locality.specs.Moved.{startingAt}
-use Rattle.keyword.specs.Shared.{SameBlock, MovedBlock}
-use Rattle.edf.specs.Independence.{SameAnswers, MovedAnswers}
+use Rattle.keyword.specs.Shared.{SameBlock, MovedBlock, MovedPlainBlock}
+use Rattle.edf.specs.Independence.{SameAnswers, MovedAnswersFrom, MovedAnswers}
 -- ---- Laws
 use Rattle.locality.proofs.Joined.{joined-count}
 use Rattle.locality.proofs.Main as locality
@@ -43,9 +44,13 @@ opened-accepted = laws.opened-accepted
 pub same-block : {s t : List ℕ} {k j : ℕ} → SameBlock s t k j → SameAnswers s t k j
 same-block b = laws.same-answers (b .1)
 
--- Where the block starts n bytes later in the other file, and there is no general header, spans are moved, and all else is the same.
-pub moved-block : (n : ℕ) {s t : List ℕ} {k j : ℕ} → MovedBlock n s t k j → MovedAnswers n s t k j
-moved-block n b = laws.moved-answers n (b .1) (b .2)
+-- A block that starts n bytes later in the other file: the spans of its own header and of its array are moved, and all else is the same.
+pub moved-block : (n : ℕ) {s t : List ℕ} {k j : ℕ} (b : MovedBlock n s t k j) → MovedAnswersFrom (b .0 .start) n s t k j
+moved-block n b = laws.moved-answers-from n (b .1)
+
+-- Without a general header all spans are.
+pub moved-plain-block : (n : ℕ) {s t : List ℕ} {k j : ℕ} → MovedPlainBlock n s t k j → MovedAnswers n s t k j
+moved-plain-block n b = laws.moved-answers n (b .1) (b .2)
 
 -- ---- Files end to end
 
@@ -65,13 +70,13 @@ module _ (s t : List ℕ) {rows others : List Row} (j : Joinable s t rows others
   joined-first k at = same-block (first-shared s t j k at)
 
   pub joined-second : (k : ℕ) {row : Row} → getElem? others k ≡ some row → MovedAnswers (length s) t (s ++ t) k (length rows + k)
-  joined-second k at = moved-block (length s) (second-shared s t j k at)
+  joined-second k at = moved-plain-block (length s) (second-shared s t j k at)
 
 -- ---- A block as a file of its own
 
 -- The block's bytes alone answer as the block in its file, but for spans, which are moved by the block's start.
 pub alone-answers : {s : List ℕ} {k : ℕ} {row : Row} → AloneBlock s k row → MovedAnswers (row .start) (blockBytes s row) s 0 k
-alone-answers {row = row} a = moved-block (row .start) (alone-shared a)
+alone-answers {row = row} a = moved-plain-block (row .start) (alone-shared a)
 
 -- It is one where `open` says so of its bytes: one block, with the same row but for its start.
 pub opened-alone : {s : List ℕ} {rows : List Row} → AcceptedFile s rows → generalHeader s rows ≡ none → (k : ℕ) {row : Row} → getElem? rows k ≡ some row

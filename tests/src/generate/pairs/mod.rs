@@ -22,6 +22,8 @@ pub enum Law {
     Moved,
     /// The block's bytes are a file; there is no general header.
     Alone,
+    /// Blocks between the general header and the block are longer or shorter.
+    MovedWithGeneral,
 }
 
 /// The second reader says which pairs are of use.
@@ -45,6 +47,10 @@ pub fn drawn(law: Law, seed: u64, number: usize) -> Pair {
             rest::moved(random, &plan)
         }
         Law::Alone => alone(random),
+        Law::MovedWithGeneral => {
+            let plan = plan_with_general(random);
+            rest::moved_behind_general(random, &plan)
+        }
     }
 }
 
@@ -74,6 +80,12 @@ fn any_plan(random: &mut Random) -> Plan {
 fn plan_without_general(random: &mut Random) -> Plan {
     let (kind, count) = (random.pick(&[1, 2]), block_count(random, 1));
     plan(random, kind, false, 512, count)
+}
+
+/// A file with a general header and at least two data blocks.
+fn plan_with_general(random: &mut Random) -> Plan {
+    let (boundary, count) = (random.pick(&[512, 512, 1, 7, 64, 1_024]), block_count(random, 2));
+    plan(random, 2, true, boundary, count)
 }
 
 /// A valid file; in kind 1 a later block may start with an EDF_ key, and a general block has data more often than elsewhere.

@@ -67,6 +67,16 @@ pub fn moved(random: &mut Random, plan: &Plan) -> Pair {
     Pair { one: plan.render(), other, block, other_block: before.1 }
 }
 
+/// A block of a file with a general header, moved: a block between them has more or less data.
+pub fn moved_behind_general(random: &mut Random, plan: &Plan) -> Pair {
+    let block = random.from_to(2, plan.blocks.len() - 1);
+    let mut changed = plan.clone();
+    let (number, length) = (random.from_to(1, block - 1), random.below(900));
+    Shape::of(plan).set_data(random, &mut changed.blocks[number], length);
+    let [one, other] = if random.percent(50) { [plan, &changed] } else { [&changed, plan] };
+    Pair { one: one.render(), other: other.render(), block, other_block: block }
+}
+
 impl Rest<'_> {
     /// Whether there is something before the block that may be edited: a block, or data of the general one.
     fn can_before(&self) -> bool {
