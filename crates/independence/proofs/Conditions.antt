@@ -1,7 +1,7 @@
 -- The conditions of the laws can be met, and each is needed: where one is dropped, two small files refute the law. Proved by computing.
 use mathlib.Core.Path.{_≡_, refl, sym, ap, _∙_}
 use mathlib.Core.List.{List, [], _∷_, _++_, map, List·Memᴰ·head}
-use mathlib.Core.Option.{some}
+use mathlib.Core.Option.{none, some}
 use Prim.Native.Nat.{ℕ, zero, suc, _+_, _≤_}
 use native.Mathlib.Omega.{arith}
 use lib.IntN.{pos}
@@ -33,8 +33,8 @@ use Rattle.blocks.proofs.BlockLaws.{block-inside}
 use Rattle.blocks.proofs.Complete.{opened-complete}
 use Rattle.blocks.proofs.Sound.{opened-sound}
 use Rattle.blocks.proofs.Unambiguous.{partition-unique}
-use Rattle.locality.specs.Blocks.{AcceptedFile, blockBytes, OfKind, Joinable, joinedRows}
-use Rattle.locality.specs.Moved.{movedRow}
+use Rattle.locality.specs.Blocks.{AcceptedFile, blockBytes, generalHeader, OfKind, Joinable, joinedRows, AloneBlock}
+use Rattle.locality.specs.Moved.{startingAt, movedRow}
 use Rattle.locality.proofs.Joined.{files-joined}
 use Rattle.locality.proofs.KindLaws.{kind-by-row}
 use Rattle.keyword.specs.Keyword.{entriesAt, generalEntries, viewOf, lookupIn, entryOf, valueFound}
@@ -63,6 +63,13 @@ blank = 123 ∷ (spaces 509 ++ (125 ∷ 10 ∷ []))
 abbrev pub blankRow : Row
 blankRow = record { start = 0; header = 512; size = 0; kind = 1; sequence = pos 0; instance = 0; memory = pos 0 }
 
+-- And one that starts with an EDF_ key. Behind the other it is a block of kind 1.
+unfoldable named : List ℕ
+named = ascii "{EDF_DataBlockID=x;" ++ (spaces 491 ++ (125 ∷ 10 ∷ []))
+
+abbrev namedRow : Row
+namedRow = startingAt 512 blankRow
+
 -- ---- What is computed
 
 record Facts : Type 0 where
@@ -79,9 +86,13 @@ record Facts : Type 0 where
   other-small : length (fileWith 50) ≡ 102
   blank-opens : opened blank ≡ ok (blankRow ∷ [])
   blank-small : length blank ≡ 512
+  -- Alone it is a first header of kind 2, with a malformed identity.
+  named-opens : opened (blank ++ named) ≡ ok (blankRow ∷ namedRow ∷ [])
+  named-small : length (blank ++ named) ≡ 1024
+  named-alone : opened (blockBytes (blank ++ named) namedRow) ≡ refused 9 0
 
 facts : Facts
-unfolding fileWith blank spaces firstWith firstFrom foldTable fold strip keyOf digit digitsFrom natural wholeNumber leading trimmedEnd trimmed withoutOpeningQuote withoutClosingQuote valueSpan valueOf whitespace visible trimmedLength value span entries lookup key openingAt closingAt endsBody frameAt headerAt statementAt statementsWithin statementsFrom isShort among areDistinct statementsOf isEdfKey counting countingIn sizeValue generalRules rulesOf roleOf isWholeOrAbsent isLengthOrAbsent lengthAllowed judged blockAt sameNumber sameIdentity identityAmong repeats countMatches openedFrom opened openedFile numberOr isVersion askedFor afterPrefix memoryOf identityOf same entriesAt generalEntries viewOf lookupIn entryOf valueFound
+unfolding fileWith blank spaces named firstWith firstFrom foldTable fold strip keyOf digit digitsFrom natural wholeNumber leading trimmedEnd trimmed withoutOpeningQuote withoutClosingQuote valueSpan valueOf whitespace visible trimmedLength value span entries lookup key openingAt closingAt endsBody frameAt headerAt statementAt statementsWithin statementsFrom isShort among areDistinct statementsOf isEdfKey counting countingIn sizeValue generalRules rulesOf roleOf isWholeOrAbsent isLengthOrAbsent lengthAllowed judged blockAt sameNumber sameIdentity identityAmong repeats countMatches openedFrom opened openedFile numberOr isVersion askedFor afterPrefix memoryOf identityOf same entriesAt generalEntries viewOf lookupIn entryOf valueFound
 facts = record {
   opens = refl;
   other-opens = refl;
@@ -93,6 +104,9 @@ facts = record {
   other-small = refl;
   blank-opens = refl;
   blank-small = refl;
+  named-opens = refl;
+  named-small = refl;
+  named-alone = refl;
 }
 
 accepted : AcceptedFile (fileWith 49) rows
@@ -162,3 +176,14 @@ starts-moved s t {us} {vs} j c = go vs (j .second .partition .not-empty) same
         let z : some (movedRow (length s) x) ≡ some x = ap (λ (l : List Row). getElem? l 0) e in
         let y : movedRow (length s) x ≡ x = cc in
         omega (arith, ap (λ (r : Row). r .start) y, long, p .not-empty)
+
+-- Not every block of a file without a general header is a file of its own.
+pub alone-needed :
+    ((s : List ℕ) (us : List Row) (k : ℕ) (row : Row) → AcceptedFile s us → generalHeader s us ≡ none → getElem? us k ≡ some row
+    → AloneBlock s k row) → ⊥
+alone-needed law =
+    let s = blank ++ named in
+    let file : AcceptedFile s (blankRow ∷ namedRow ∷ []) =
+    record { small = omega (arith, facts .named-small); partition = opened-sound s (facts .named-opens) } in
+    let a = law s (blankRow ∷ namedRow ∷ []) 1 namedRow file refl refl in
+    ok-failed (sym (opened-complete (blockBytes s namedRow) (a .alone)) ∙ facts .named-alone)
