@@ -2,11 +2,11 @@
 //! and generated cases to compare readers with.
 
 pub mod answer;
-pub mod apart;
 pub mod both;
 pub mod compare;
 pub mod files;
 pub mod generate;
+pub mod independence;
 pub mod library;
 pub mod parallel;
 pub mod planted;

@@ -1,10 +1,10 @@
-//! Plants faults in copies of the second reader, one in each, and checks that the generated cases find every one; and that the laws of keeping
-//! blocks apart, asked of the faulty reader alone, find every fault that they rule out.
+//! Plants faults in copies of the second reader, one in each, and checks that the generated cases find every one; and that the laws of
+//! independent blocks, asked of the faulty reader alone, find every fault that they rule out.
 
-mod apart_faults;
+mod independence_faults;
 mod faults;
 
-use apart_faults::APART_FAULTS;
+use independence_faults::INDEPENDENCE_FAULTS;
 use faults::{Fault, FAULTS};
 use std::fs;
 use std::path::{Path, PathBuf};
@@ -31,7 +31,7 @@ fn build_copies(package: &Path, folder: &Path) -> Result<(), String> {
     if source.exists() {
         told(fs::remove_dir_all(&source), &source)?;
     }
-    for (number, fault) in FAULTS.iter().chain(APART_FAULTS).enumerate() {
+    for (number, fault) in FAULTS.iter().chain(INDEPENDENCE_FAULTS).enumerate() {
         copy_with_fault(&package.join("src/reader"), &source.join(name(number)), fault)?;
     }
     let manifest = folder.join("Cargo.toml");
@@ -95,13 +95,13 @@ fn listed(first: usize, faults: &[Fault]) -> (String, String) {
 
 fn main_text() -> String {
     let module = |i: usize| format!("mod {0};\nedf_tests::answer_function!(answer_{i:03}, {0});", name(i));
-    let modules: Vec<String> = (0..FAULTS.len() + APART_FAULTS.len()).map(module).collect();
+    let modules: Vec<String> = (0..FAULTS.len() + INDEPENDENCE_FAULTS.len()).map(module).collect();
     let (titles, readers) = listed(0, FAULTS);
-    let (apart_titles, apart_readers) = listed(FAULTS.len(), APART_FAULTS);
+    let (law_titles, law_readers) = listed(FAULTS.len(), INDEPENDENCE_FAULTS);
     format!(
         "#![allow(warnings)]\n{}\n\nfn main() {{\n    \
         let found = edf_tests::planted::print_found({titles}, {readers}, {SEED}, {CASES});\n    \
-        let broken = edf_tests::planted::print_broken({apart_titles}, {apart_readers}, {SEED}, {PAIRS});\n    \
+        let broken = edf_tests::planted::print_broken({law_titles}, {law_readers}, {SEED}, {PAIRS});\n    \
         std::process::exit(i32::from(!(found && broken)));\n}}\n",
         modules.join("\n"),
     )

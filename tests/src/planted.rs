@@ -1,8 +1,8 @@
 //! Where the generated cases find faults that were planted in copies of the second reader, and which laws find them without another reader.
 
 use crate::answer::{Answer, Call};
-use crate::apart::general::general_counts;
-use crate::apart::{end_to_end, kept_apart, Breach};
+use crate::independence::general::general_counts;
+use crate::independence::{concatenated, answered_alike, Breach};
 use crate::compare::{compare_case, Difference, Reader};
 use crate::generate::case;
 use crate::generate::pairs::{pair, two_general_headers, two_of_kind_1, Law};
@@ -30,15 +30,15 @@ pub fn print_found(titles: &[Title], readers: &[Reader], seed: u64, cases: usize
 /// Asks a law of a reader, on the files with a number: the breach, if there is one.
 type Question = fn(Reader, u64, usize) -> Option<Box<Breach>>;
 
-/// The laws of keeping blocks apart.
+/// The laws of independent blocks.
 const LAWS: [(&str, Question); 6] = [
-    ("edited", |reader, seed, number| kept_apart(reader, &pair(Law::Edited, seed, number)?).err()),
-    ("moved", |reader, seed, number| kept_apart(reader, &pair(Law::Moved, seed, number)?).err()),
-    ("behind", |reader, seed, number| kept_apart(reader, &pair(Law::MovedWithGeneral, seed, number)?).err()),
-    ("alone", |reader, seed, number| kept_apart(reader, &pair(Law::Alone, seed, number)?).err()),
+    ("edited", |reader, seed, number| answered_alike(reader, &pair(Law::Edited, seed, number)?).err()),
+    ("moved", |reader, seed, number| answered_alike(reader, &pair(Law::Moved, seed, number)?).err()),
+    ("behind", |reader, seed, number| answered_alike(reader, &pair(Law::MovedWithGeneral, seed, number)?).err()),
+    ("alone", |reader, seed, number| answered_alike(reader, &pair(Law::Alone, seed, number)?).err()),
     ("joined", |reader, seed, number| {
         let [one, other] = two_of_kind_1(seed, number);
-        end_to_end(reader, &one, &other).err()
+        concatenated(reader, &one, &other).err()
     }),
     ("general", |reader, seed, number| general_counts(reader, &two_general_headers(seed, number)?).err()),
 ];

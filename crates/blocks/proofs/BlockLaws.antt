@@ -40,6 +40,14 @@ pub said-once : {s : List ℕ} {start : ℕ} {h : Header} {ts : List Statement} 
     → es ≡ entries (bodyOf s h) ts
 said-once {s} {h = h} x = entries-only (bodyOf s h) (x .says)
 
+-- the same wherever it is parsed,
+pub said-same : {s : List ℕ} {start : ℕ} {h g : Header} {ts us : List Statement} {es ds : List Entry} → HasHeader s start h ts es
+    → HasHeader s start g us ds → es ≡ ds
+said-same x y =
+    let p = header-unique (x .header) (y .header) in
+    let q = parse-unique (rw p at (x .parse)) (y .parse) in
+    said-once x ∙ rw (p, q) (sym (said-once y))
+
 -- with distinct keys.
 pub keys-distinct : {s : List ℕ} {start : ℕ} {h : Header} {ts : List Statement} {es : List Entry} → HasHeader s start h ts es → DistinctKeys es
 keys-distinct {s} {h = h} {ts = ts} x =
@@ -166,11 +174,7 @@ module _ (s : List ℕ) (given : Rules) (asking : Asking given) where
       rules-of-block r = go rank k
         where
           go : {b : Bool} {start : ℕ} → IsFirst b start → HasHeader s start h ts es → RulesFrom s given b r → RulesAre given b es r
-          go is-first k f =
-              let p : f .header ≡ h = header-unique (f .stands .header) (k .header) in
-              let q : f .statements ≡ ts = parse-unique (rw p at (f .stands .parse)) (k .parse) in
-              let t : f .entries ≡ es = said-once (f .stands) ∙ rw (p, q) (sym (said-once k)) in
-              rw t at (f .declares)
+          go is-first k f = rw (said-same (f .stands) k) at (f .declares)
           go (is-later n) k f = f
 
     pub block-complete : {r : Rules} {row : Row} {next : ℕ} → IsBlock s r start row next → RulesFrom s given b r

@@ -37,18 +37,18 @@ written-same : {o p : Outcome (List ℕ)} → p ≡ o → {room : List ℕ} {r q
 written-same e {room} {q = q} {left = left} c d = same-written (subst (λ (x : Outcome (List ℕ)). IntoBuffer x room q left) e d) c
 
 -- The answers that have a span, by those of the definitions.
-module _ {s t : List ℕ} {k j : ℕ} {row : Row} (n : ℕ) (b : SharedBlock s t k j row (movedRow n row)) (place : Located → Located) (store : Stored → Stored)
-    (places : (key : List ℕ) → locatedBy (found t j key) ≡ place (locatedBy (found s k key)))
-    (stores : (order : ℕ) → storedBy (storedArray t j order) ≡ store (storedBy (storedArray s k order))) where
-  answers : Answers s t k j place store
+module _ {s t : List ℕ} {k j : ℕ} {row : Row} (n : ℕ) (b : SharedBlock s t k j row (movedRow n row)) (moveLocated : Located → Located) (moveStored : Stored → Stored)
+    (finds : (key : List ℕ) → locatedBy (found t j key) ≡ moveLocated (locatedBy (found s k key)))
+    (stored : (order : ℕ) → storedBy (storedArray t j order) ≡ moveStored (storedBy (storedArray s k order))) where
+  answers : Answers s t k j moveLocated moveStored
   answers = record {
-    find = λ {key} {r} {q} c d. located-by q (d .answers) ∙ places key ∙ ap place (sym (located-by r (c .answers)));
+    find = λ {key} {r} {q} c d. located-by q (d .answers) ∙ finds key ∙ ap moveLocated (sym (located-by r (c .answers)));
     value = λ {key} c d. d .bytes ∙ value-shared n b key ∙ sym (c .bytes);
     whole-number = λ {key} {r} {q} c d. number-by q (d .answers ∙ number-shared n b key) ∙ sym (number-by r (c .answers));
     real = λ {key} {r} {q} c d. measured-by q (d .answers ∙ real-shared n b key) ∙ sym (measured-by r (c .answers));
     text = λ key c d. written-same (text-shared n b key) c d;
     describe = λ {r} {q} c d. described-by q (d .answers ∙ description-shared n b) ∙ sym (described-by r (c .answers));
-    stored-array = λ {order} {r} {q} c d. stored-by q (d .answers) ∙ stores order ∙ ap store (sym (stored-by r (c .answers)));
+    stored-array = λ {order} {r} {q} c d. stored-by q (d .answers) ∙ stored order ∙ ap moveStored (sym (stored-by r (c .answers)));
     read-array = λ order c d. written-same (delivered-shared n b order) c d;
     read-pixel = λ {i1} {i2} {i3} {r} {q} c d. sampled-by q (d .answers ∙ pixel-shared n b i1 i2 i3) ∙ sym (sampled-by r (c .answers));
   }
@@ -68,8 +68,8 @@ stored-map n (ok a) = refl
 stored-map n (failed e) = refl
 
 module _ (n : ℕ) {s t : List ℕ} {k j : ℕ} {row : Row} (b : SharedBlock s t k j row (movedRow n row)) where
-  stores-moved : (order : ℕ) → storedBy (storedArray t j order) ≡ movedStored n (storedBy (storedArray s k order))
-  stores-moved order = ap storedBy (stored-moved n b order) ∙ stored-map n (storedArray s k order)
+  stored-moved : (order : ℕ) → storedBy (storedArray t j order) ≡ movedStored n (storedBy (storedArray s k order))
+  stored-moved order = ap storedBy (stored-moved n b order) ∙ stored-map n (storedArray s k order)
 
   pub moved-answers-from : MovedAnswersFrom (row .start) n s t k j
   moved-answers-from =
@@ -77,13 +77,13 @@ module _ (n : ℕ) {s t : List ℕ} {k j : ℕ} {row : Row} (b : SharedBlock s t
       answers n b (movedLocatedFrom start n) (movedStored n)
       (λ key. ap locatedBy (found-moved-from n b key)
       ∙ located-map (movedFrom start n) (movedLocatedFrom start n) (λ p. refl) (λ e. refl) (found s k key))
-      stores-moved
+      stored-moved
 
   pub moved-answers : generalHeader s (b .rows) ≡ none → MovedAnswers n s t k j
   moved-answers g =
       answers n b (movedLocated n) (movedStored n)
       (λ key. ap locatedBy (found-moved n b key g) ∙ located-map (movedSpan n) (movedLocated n) (λ p. refl) (λ e. refl) (found s k key))
-      stores-moved
+      stored-moved
 
 -- ---- What `open` accepts
 

@@ -2,7 +2,7 @@
 -- Contracts, beside this file): `Open s before r after` is any call of `open` on the file s, with a table that held `before`, that answers
 -- r and leaves `after`. `Puts` is what a call that writes answers and leaves where its buffer has room. Main/Words says where each word
 -- stands. Four more pages: Main/Keywords, on keywords and fields by the grammar, Main/Reals, on real numbers, Main/Arrays, and
--- Main/Independence, on blocks apart and files end to end. Beside this file: Refusals, Codes, Answers.
+-- Main/Independence, on the independence of blocks and on concatenated files. Beside this file: Refusals, Codes, Answers.
 pub mod Arrays
 pub mod Independence
 pub mod Keywords

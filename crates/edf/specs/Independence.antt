@@ -14,9 +14,9 @@ use Rattle.independence.specs.Moved.{movedLocated, movedLocatedFrom, movedStore
 use Rattle.edf.specs.Calls.{Find, WholeNumber, ReadReal, Text, Describe, Stores, ReadArray, ReadPixel}
 
 -- Any call on block k of the file s, and the same call on block j of the file t, answer the same, in an error too, and leave the same in a
--- lent buffer that held the same. `place` and `store` say what becomes of the answers that have a span.
-pub record Answers (s t : List ℕ) (k j : ℕ) (place : Located → Located) (store : Stored → Stored) : Type 0 where
-  pub find : {key : List ℕ} {r q : Located} → Find s k key r → Find t j key q → q ≡ place r
+-- lent buffer that held the same. `moveLocated` and `moveStored` say what becomes of the answers that have a span.
+pub record Answers (s t : List ℕ) (k j : ℕ) (moveLocated : Located → Located) (moveStored : Stored → Stored) : Type 0 where
+  pub find : {key : List ℕ} {r q : Located} → Find s k key r → Find t j key q → q ≡ moveLocated r
   -- The bytes of the value, at the span that is found in each file.
   pub value : {key : List ℕ} {r q : Located} → Find s k key r → Find t j key q → locatedBytes t q ≡ locatedBytes s r
   pub whole-number : {key : List ℕ} {r q : Number} → WholeNumber s k key r → WholeNumber t j key q → q ≡ r
@@ -24,7 +24,7 @@ pub record Answers (s t : List ℕ) (k j : ℕ) (place : Located → Located) (s
   pub text : (key : List ℕ) {room after left : List ℕ} {r q : Written} → Text s k key room r after → Text t j key room q left
       → (q ≡ r) × (left ≡ after)
   pub describe : {r q : Described} → Describe s k r → Describe t j q → q ≡ r
-  pub stored-array : {order : ℕ} {r q : Stored} → Stores s k order r → Stores t j order q → q ≡ store r
+  pub stored-array : {order : ℕ} {r q : Stored} → Stores s k order r → Stores t j order q → q ≡ moveStored r
   pub read-array : (order : ℕ) {room after left : List ℕ} {r q : Written} → ReadArray s k order room r after → ReadArray t j order room q left
       → (q ≡ r) × (left ≡ after)
   pub read-pixel : {i1 i2 i3 : ℕ} {r q : Sampled} → ReadPixel s k i1 i2 i3 r → ReadPixel t j i1 i2 i3 q → q ≡ r

@@ -4,24 +4,19 @@ use mathlib.Core.List.{List}
 use mathlib.Core.Option.{some}
 use Prim.Native.Nat.{ℕ}
 use lib.ListN.{getElem?}
-use Rattle.scan.specs.Outcome.{ok}
 use Rattle.scan.proofs.Finds.{Finds, finds-by}
 use Rattle.header.specs.Entries.{entries, lookup}
 use Rattle.header.specs.Entry.{Entry, bodyOf}
 use Rattle.header.specs.declared.Header.{Header}
 use Rattle.header.specs.declared.Statement.{Statement}
-use Rattle.header.proofs.FrameLaws.{header-complete}
 use Rattle.header.proofs.SayLaws.{entries-say}
-use Rattle.header.proofs.StatementLaws.{statements-complete}
 use Rattle.blocks.specs.Grammar.{HasHeader, Partition}
 use Rattle.blocks.specs.Places.{EntryAt}
 use Rattle.blocks.specs.declared.Row.{Row}
-use Rattle.blocks.proofs.BlockLaws.{said-once, keys-distinct}
+use Rattle.blocks.proofs.BlockLaws.{said-same, keys-distinct}
 use Rattle.blocks.proofs.PlaceLaws.{finds-entry, one-at}
 use Rattle.blocks.proofs.Unambiguous.{row-header}
 use Rattle.locality.proofs.Rows.{member-at}
-use Rattle.keyword.specs.Keyword.{entriesAt}
-use Rattle.description.proofs.DescribedLaws.{same-ok}
 use Rattle.fields.specs.Keyword.{HeaderHas}
 
 -- A header stands at an offset, with what it says.
@@ -31,23 +26,14 @@ pub record Headed (s : List ℕ) (start : ℕ) : Type 0 where
   pub entries : List Entry
   pub stands : HasHeader s start header statements entries
 
--- ---- What is read of it
+-- ---- A key in it
 
 module _ {s : List ℕ} {start : ℕ} where
-  pub entries-read : {h : Header} {ts : List Statement} {es : List Entry} → HasHeader s start h ts es → entriesAt s start ≡ ok es
-  unfolding entriesAt
-  entries-read {h} x = rw (header-complete (x .header), statements-complete s start h (x .parse), said-once x)
-
-  -- Two headers at one offset say the same.
-  one-header : {h g : Header} {ts us : List Statement} {es fs : List Entry}
-      → HasHeader s start h ts es → HasHeader s start g us fs → es ≡ fs
-  one-header x y = same-ok (sym (entries-read x) ∙ entries-read y)
-
   module _ {key : List ℕ} where
     -- The entry of the key, in the entries of any header at the offset.
     stands-in : {h : Header} {ts : List Statement} {es : List Entry} → HasHeader s start h ts es
         → {e : Entry} (x : HeaderHas s start key e) → EntryAt es (x .number) e
-    stands-in k {e} x = subst (λ (l : List Entry). EntryAt l (x .number) e) (one-header (x .stands) k) (x .at)
+    stands-in k {e} x = subst (λ (l : List Entry). EntryAt l (x .number) e) (said-same (x .stands) k) (x .at)
 
     pub finds-in-header : (x : Headed s start) → Finds (HeaderHas s start key) (lookup key (x .entries))
     finds-in-header x =

@@ -80,7 +80,7 @@ record Facts : Type 0 where
   -- but not the same values: A is a keyword of the general header.
   value : valueFound (fileWith 49) 1 (ascii "A") ≡ ok (49 ∷ [])
   other-value : valueFound (fileWith 50) 1 (ascii "A") ≡ ok (50 ∷ [])
-  -- End to end they are refused: the third header starts with EDF_DataFormatVersion, not with EDF_DataBlockID.
+  -- Concatenated they are refused: the third header starts with EDF_DataFormatVersion, not with EDF_DataBlockID.
   joined : opened (fileWith 49 ++ fileWith 50) ≡ refused 9 102
   small : length (fileWith 49) ≡ 102
   other-small : length (fileWith 50) ≡ 102
@@ -135,7 +135,7 @@ some-joinable = record {
 
 -- ---- The laws without a condition
 
--- Blocks apart, without "the same general header or none in either".
+-- A block of two files, without "the same general header or none in either".
 pub general-header-needed :
     ((s t : List ℕ) (us vs : List Row) (k j : ℕ) (row : Row) → AcceptedFile s us → AcceptedFile t vs → getElem? us k ≡ some row
     → getElem? vs j ≡ some row → blockBytes s row ≡ blockBytes t row → (name : List ℕ) → valueFound t j name ≡ valueFound s k name) → ⊥
@@ -146,7 +146,7 @@ general-header-needed law =
     let z : _≡_ {A = ℕ} 50 49 = cc in
     omega arith
 
--- Files end to end, without "of kind 1".
+-- Concatenated files, without "of kind 1".
 pub kind-needed :
     ((s t : List ℕ) (us vs : List Row) → AcceptedFile s us → AcceptedFile t vs → length us + length vs ≤ blockLimit → length s + length t ≤ fileLimit
     → AcceptedFile (s ++ t) (joinedRows (length s) us vs)) → ⊥

@@ -1,4 +1,4 @@
--- Blocks that two files share: those of two files end to end, and a block that is a file of its own.
+-- Blocks that two files share: those of two concatenated files, and a block that is a file of its own.
 use mathlib.Core.Path.{_≡_, refl, sym, ap, _∙_}
 use mathlib.Core.List.{List, [], _∷_, _++_, map}
 use mathlib.Core.Option.{none, some}
@@ -16,7 +16,7 @@ use Rattle.locality.proofs.Rows.{member-at, front-at, back-at, map-at}
 use Rattle.locality.proofs.Searches.{bytes-shift}
 use Rattle.keyword.specs.Shared.{SameBlock, MovedPlainBlock}
 
--- ---- Two files end to end
+-- ---- Two concatenated files
 
 module _ (s t : List ℕ) {rows others : List Row} (j : Joinable s t rows others) where
   no-general : generalHeader (s ++ t) (joinedRows (length s) rows others) ≡ none

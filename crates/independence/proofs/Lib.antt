@@ -2,3 +2,4 @@ pub mod Arrays
 pub mod Conditions
 pub mod Descriptions
 pub mod Files
+pub mod Main

@@ -12,14 +12,9 @@ use Rattle.scan.specs.Chain.{Chain}
 use Rattle.scan.specs.Outcome.{Outcome, ok, _>>=_}
 use Rattle.scan.proofs.Cases.{by-test, by-outcome}
 use Rattle.header.specs.Entry.{Entry}
-use Rattle.header.specs.declared.Header.{Header}
-use Rattle.header.specs.declared.Statement.{Statement}
-use Rattle.header.proofs.FrameLaws.{header-complete}
-use Rattle.header.proofs.StatementLaws.{statements-complete}
-use Rattle.blocks.specs.Grammar.{Rules, HasHeader, IsBlock, Partition}
+use Rattle.blocks.specs.Grammar.{Rules, IsBlock, Partition}
 use Rattle.blocks.specs.declared.Row.{Row}
 use Rattle.blocks.proofs.Answers.{file-accepted}
-use Rattle.blocks.proofs.BlockLaws.{said-once}
 use Rattle.blocks.proofs.Prefix.{has-local}
 use Rattle.blocks.proofs.Unambiguous.{block-of}
 use Rattle.locality.specs.Blocks.{AcceptedFile, blockBytes, generalHeader}
@@ -28,11 +23,7 @@ use Rattle.locality.proofs.BlockUp.{front}
 use Rattle.locality.proofs.Rows.{member-at}
 use Rattle.keyword.specs.Keyword.{View, entriesAt, generalEntries, viewOf}
 use Rattle.keyword.specs.Shared.{SharedBlock}
-
--- What a header says.
-pub said : {s : List ℕ} {a : ℕ} {h : Header} {ts : List Statement} {es : List Entry} → HasHeader s a h ts es → entriesAt s a ≡ ok es
-unfolding entriesAt
-said {s} {a} {h} x = rw (header-complete (x .header), statements-complete s a h (x .parse)) (ap ok (sym (said-once x)))
+use Rattle.keyword.proofs.Views.{entries-read}
 
 -- ---- The block's own header
 
@@ -47,8 +38,8 @@ own-header {s} {rows} c k {row} e =
     let b = block-of c (member-at rows k e) .2 in
     record {
       entries = front b .entries;
-      alone = said (front b .stands);
-      here = ap (entriesAt s) (b .starts) ∙ said (b .stands) ∙ ap ok (front b .entries-are);
+      alone = entries-read (front b .stands);
+      here = ap (entriesAt s) (b .starts) ∙ entries-read (b .stands) ∙ ap ok (front b .entries-are);
     }
 
 moved-twice : (n a : ℕ) (es : List Entry) → map (movedEntry (n + a)) es ≡ map (movedEntry n) (map (movedEntry a) es)
@@ -66,8 +57,8 @@ generalBy kind (some bytes) = cond (eqb kind 1) (entriesAt bytes 0) (ok [])
 
 first-said : {s : List ℕ} {r : Rules} {row : Row} {next : ℕ} → IsBlock s r 0 row next → entriesAt s 0 ≡ entriesAt (take (row .header) s) 0
 first-said {s} {row = row} b =
-    said (b .stands)
-    ∙ sym (said (has-local (row .header) s (take (row .header) s) (sym (take-take (row .header) (row .header) s (omega arith)))
+    entries-read (b .stands)
+    ∙ sym (entries-read (has-local (row .header) s (take (row .header) s) (sym (take-take (row .header) (row .header) s (omega arith)))
     (omega (arith, b .length-is)) (b .stands)))
 
 pub general-by : {s : List ℕ} {rows : List Row} → Partition s rows → (row : Row) → generalEntries s rows row ≡ generalBy (row .kind) (generalHeader s rows)

@@ -25,7 +25,7 @@ use Rattle.blocks.proofs.BlockLaws.{block-inside, said-once}
 use Rattle.locality.proofs.Chains.{chain-behind}
 use Rattle.locality.proofs.Rows.{member-at}
 use Rattle.keyword.specs.Keyword.{entriesAt, generalEntries}
-use Rattle.keyword.proofs.Shared.{said}
+use Rattle.keyword.proofs.Views.{entries-read}
 
 -- ---- In a header
 
@@ -57,7 +57,7 @@ general-before {s} {rows} c k {row} at {g} q key {e} l = go rows k (c .blocks) a
     -- The first block ends where the next ones start, or before.
     inside : {r : Rules} {x : Row} {next : ℕ} → IsBlock s r 0 x next → entriesAt s 0 ≡ ok g → e .span .offset < next
     inside b w =
-        let p : ok g ≡ ok (b .entries) = sym w ∙ said (b .stands) in
+        let p : ok g ≡ ok (b .entries) = sym w ∙ entries-read (b .stands) in
         let z : g ≡ b .entries = cc in
         omega (arith, span-inside (b .stands) key (rw z at l), b .length-is, b .ends)
 

@@ -68,36 +68,36 @@ module _ (n : ℕ) {s t : List ℕ} {k j : ℕ} {row : Row} (b : SharedBlock s t
   -- ---- Where it stands
 
   -- By what becomes of a span of the own header, and of one of the general header.
-  module _ (place : Span → Span) (own-place : (p : Span) → place (movedSpan (row .start) p) ≡ movedSpan n (movedSpan (row .start) p))
-      (general-place : (g : List Entry) → generalEntries s (b .rows) row ≡ ok g → (key : List ℕ) (e : Entry) → lookup key g ≡ some e
-      → place (e .span) ≡ e .span) where
+  module _ (move : Span → Span) (own-moves : (p : Span) → move (movedSpan (row .start) p) ≡ movedSpan n (movedSpan (row .start) p))
+      (general-stays : (g : List Entry) → generalEntries s (b .rows) row ≡ ok g → (key : List ℕ) (e : Entry) → lookup key g ≡ some e
+      → move (e .span) ≡ e .span) where
     own-entries : List Entry
     own-entries = own (b .file) k (b .at) .entries
 
-    placed : (g : List Entry) → generalEntries s (b .rows) row ≡ ok g
-        → spanIn (movedView n (viewWith (b .file) k (b .at) g)) name ≡ Option·map place (spanIn (viewWith (b .file) k (b .at) g) name)
+    span-shared : (g : List Entry) → generalEntries s (b .rows) row ≡ ok g
+        → spanIn (movedView n (viewWith (b .file) k (b .at) g)) name ≡ Option·map move (spanIn (viewWith (b .file) k (b .at) g) name)
     unfolding lookupIn own-entries
-    placed g q =
+    span-shared g q =
         let key = keyOf name in
         let a = row .start in
         rw (lookup-moved n key (map (movedEntry a) own-entries), lookup-moved a key own-entries)
         (by-option (lookup key own-entries)
         (λ e. by-test (isEdfKey key)
         (λ u. rw (e, u))
-        (λ u. by-option (lookup key g) (λ f. rw (e, u, f)) (λ x f. rw (e, u, f) (ap some (sym (general-place g q key x f))))))
-        (λ d e. rw e (ap some (sym (own-place (d .span))))))
+        (λ u. by-option (lookup key g) (λ f. rw (e, u, f)) (λ x f. rw (e, u, f) (ap some (sym (general-stays g q key x f))))))
+        (λ d e. rw e (ap some (sym (own-moves (d .span))))))
 
-    pub found-placed : found t j name ≡ mapOutcome place (found s k name)
-    found-placed =
+    pub found-shared : found t j name ≡ mapOutcome move (found s k name)
+    found-shared =
         rw (found-by t j name, found-by s k name, view-moved n b, view-is (b .file) k (b .at))
         (by-outcome (generalEntries s (b .rows) row)
-        (λ g q. rw (q, placed g q) (by-option (spanIn (viewWith (b .file) k (b .at) g) name) (λ f. rw f) (λ x f. rw f)))
+        (λ g q. rw (q, span-shared g q) (by-option (spanIn (viewWith (b .file) k (b .at) g) name) (λ f. rw f) (λ x f. rw f)))
         (λ x q. rw q))
 
   -- What stands before the block, in the general header, stays; all else is n bytes later.
   pub found-moved-from : found t j name ≡ mapOutcome (movedFrom (row .start) n) (found s k name)
   found-moved-from =
-      found-placed (movedFrom (row .start) n)
+      found-shared (movedFrom (row .start) n)
       (λ p. rw (le-leb (row .start) (row .start + p .offset) (omega arith)))
       (λ g q key e l. rw (lt-leb (row .start) (e .span .offset) (general-before (b .file .partition) k (b .at) q key l)))
 
@@ -105,7 +105,7 @@ module _ (n : ℕ) {s t : List ℕ} {k j : ℕ} {row : Row} (b : SharedBlock s t
   pub found-moved : generalHeader s (b .rows) ≡ none → found t j name ≡ mapOutcome (movedSpan n) (found s k name)
   unfolding lookup
   found-moved none-there =
-      found-placed (movedSpan n) (λ p. refl)
+      found-shared (movedSpan n) (λ p. refl)
       (λ g q key e l.
       let p : ok [] ≡ ok g = sym (ap (generalBy (row .kind)) none-there) ∙ sym (general-by (b .file .partition) row) ∙ q in
       let z : [] ≡ g = cc in
@@ -119,5 +119,5 @@ module _ {s t : List ℕ} {k j : ℕ} {row : Row} (b : SharedBlock s t k j row r
 
   pub found-same : (name : List ℕ) → found t j name ≡ found s k name
   found-same name =
-      found-placed 0 same-moved name (λ p. p) (λ p. sym (span-unmoved (movedSpan (row .start) p))) (λ g q key e l. refl)
+      found-shared 0 same-moved name (λ p. p) (λ p. sym (span-unmoved (movedSpan (row .start) p))) (λ g q key e l. refl)
       ∙ map-same (λ p. p) (λ p. refl) (found s k name)

@@ -19,26 +19,17 @@ use Rattle.header.proofs.StatementLaws.{statements-sound, statements-complete}
 use Rattle.blocks.specs.Grammar.{HasHeader}
 use Rattle.blocks.proofs.BlockLaws.{said-once}
 use Rattle.blocks.proofs.Prefix.{has-local}
-use Rattle.locality.specs.Moved.{movedOutcome, movedHeader, movedStatement, movedEntry}
+use Rattle.locality.specs.Blocks.{HeaderAlone}
+use Rattle.locality.specs.Moved.{movedOutcome, movedHeader, movedStatement}
 use Rattle.locality.proofs.Offsets.{header-from, statements-from, entries-from}
-
--- The header at `a` with its statements and entries, at the front of a list: there they are `a` bytes further to the front.
-pub record Fronted (l : List ℕ) (a : ℕ) (h : Header) (ts : List Statement) (es : List Entry) : Type 0 where
-  pub header : Header
-  pub statements : List Statement
-  pub entries : List Entry
-  pub stands : HasHeader l 0 header statements entries
-  pub header-is : h ≡ movedHeader a header
-  pub statements-are : ts ≡ map (movedStatement a) statements
-  pub entries-are : es ≡ map (movedEntry a) entries
 
 module _ {s : List ℕ} {a : ℕ} {h : Header} {ts : List Statement} {es : List Entry} (x : HasHeader s a h ts es) where
   inside : a ≤ length s
   inside = omega (arith, header-inside (x .header))
 
   -- In the rest of the file from `a` on,
-  fronted : Fronted (drop a s) a h ts es
-  fronted =
+  rest-alone : HeaderAlone (drop a s) a h ts es
+  rest-alone =
       let headed = sym (header-complete (x .header)) ∙ header-from s a inside in
       by-outcome (headerAt (drop a s) 0)
       (λ g e.
@@ -66,9 +57,9 @@ module _ {s : List ℕ} {a : ℕ} {h : Header} {ts : List Statement} {es : List 
       (λ z e. absurd (ok-failed (headed ∙ ap (movedOutcome a (movedHeader a)) e)))
 
   -- and in as many bytes of it as hold the header.
-  pub header-alone : (m : ℕ) → h .length ≤ m → Fronted (take m (drop a s)) a h ts es
+  pub header-alone : (m : ℕ) → h .length ≤ m → HeaderAlone (take m (drop a s)) a h ts es
   header-alone m l =
-      let f = fronted in
+      let f = rest-alone in
       let fits : 0 + f .header .length ≤ m = omega (arith, ap (λ (g : Header). g .length) (f .header-is)) in
       record {
         header = f .header;

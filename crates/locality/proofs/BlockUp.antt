@@ -12,10 +12,10 @@ use Rattle.header.specs.Entry.{Entry}
 use Rattle.header.specs.declared.Header.{Header}
 use Rattle.blocks.specs.Grammar.{Rules, Declares, IsBlock, Partition}
 use Rattle.blocks.specs.declared.Row.{Row}
-use Rattle.locality.specs.Blocks.{blockBytes}
+use Rattle.locality.specs.Blocks.{blockBytes, HeaderAlone}
 use Rattle.locality.specs.Moved.{movedHeader, movedStatement, movedEntry, startingAt, movedRow}
 use Rattle.locality.proofs.Alike.{Alike, alike-sym, moved-alike, rules-alike, declares-alike}
-use Rattle.locality.proofs.Alone.{Fronted, header-alone}
+use Rattle.locality.proofs.Alone.{header-alone}
 use Rattle.locality.proofs.HeaderUp.{has-up}
 
 pub block-up : (p s : List ℕ) {r : Rules} {at next : ℕ} {row : Row} → row .kind ≡ 1 → IsBlock s r at row next
@@ -38,7 +38,7 @@ block-up p s {at = at} {row = row} kind x = record {
 
 module _ {s : List ℕ} {r : Rules} {at next : ℕ} {row : Row} (x : IsBlock s r at row next) where
   -- Its header,
-  pub front : Fronted (blockBytes s row) (row .start) (x .header) (x .statements) (x .entries)
+  pub front : HeaderAlone (blockBytes s row) (row .start) (x .header) (x .statements) (x .entries)
   front =
       header-alone (rw (sym (x .starts)) at (x .stands)) (row .header + row .size) (omega (arith, x .length-is))
 

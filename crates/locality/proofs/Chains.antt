@@ -1,4 +1,4 @@
--- Chains that are moved, chains end to end, and where the things in a chain stand.
+-- Chains that are moved, contiguous chains, and where the things in a chain stand.
 use mathlib.Core.Path.{_≡_, ap}
 use mathlib.Core.Logic.{⊎-elim}
 use mathlib.Core.List.{List, [], _∷_, _++_, map, List·Memᴰ, List·Memᴰ·not-nil, List·Memᴰ·cases-cons}

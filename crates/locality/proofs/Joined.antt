@@ -1,4 +1,4 @@
--- Two files of kind 1 end to end: the rows of the first, and those of the second with their starts moved.
+-- Two concatenated files of kind 1: the rows of the first, and those of the second with their starts moved.
 use mathlib.Core.Path.{_≡_, refl, sym, ap, subst, _∙_}
 use mathlib.Core.List.{List, _++_, map}
 use mathlib.Core.Option.{none}

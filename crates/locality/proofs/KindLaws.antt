@@ -9,13 +9,10 @@ use lib.ListN.{length}
 use Rattle.scan.specs.Chain.{Chain}
 use Rattle.scan.proofs.Cases.{by-option, none-some}
 use Rattle.header.specs.Entry.{Entry}
-use Rattle.header.specs.declared.Header.{Header}
-use Rattle.header.specs.declared.Statement.{Statement}
-use Rattle.header.proofs.Unambiguous.{header-unique, parse-unique}
-use Rattle.blocks.specs.Grammar.{Rules, plainRules, Declares, plain, data-first, general-first, HasRole, plain-block, general-block, data-block, HasHeader, IsBlock, FirstHeader, Partition}
+use Rattle.blocks.specs.Grammar.{Rules, plainRules, Declares, plain, data-first, general-first, HasRole, plain-block, general-block, data-block, IsBlock, FirstHeader, Partition}
 use Rattle.blocks.specs.Places.{kind-1, kind-2, HasKey, IsEdfKey, StartsWithEdfKey}
 use Rattle.blocks.specs.declared.Row.{Row}
-use Rattle.blocks.proofs.BlockLaws.{said-once}
+use Rattle.blocks.proofs.BlockLaws.{said-same}
 use Rattle.blocks.proofs.Coded.{kindNumber}
 use Rattle.blocks.proofs.IdentityLaws.{identity-named}
 use Rattle.blocks.proofs.Unambiguous.{block-of}
@@ -25,14 +22,6 @@ pub kinds-differ : kind-1 ≡ kind-2 → ⊥
 kinds-differ e = omega (arith, ap kindNumber e)
 
 -- ---- The first header
-
--- A header says one thing.
-one-saying : {s : List ℕ} {at : ℕ} {h g : Header} {ts us : List Statement} {es ds : List Entry} → HasHeader s at h ts es → HasHeader s at g us ds
-    → es ≡ ds
-one-saying x y =
-    let p = header-unique (x .header) (y .header) in
-    let q = parse-unique (rw p at (x .parse)) (y .parse) in
-    said-once x ∙ rw (p, q) (sym (said-once y))
 
 -- A key that the rules name for a first header is an EDF_ key.
 starts-edf : {es : List Entry} {key value : List ℕ} → IsEdfKey key → HasKey es 0 key value → StartsWithEdfKey es
@@ -45,7 +34,7 @@ declared-plain (without-edf-key n) (general-first g) = absurd (n (starts-edf (re
 
 -- A file of kind 1 has no general header, and a boundary of 512.
 pub plain-rules : {s : List ℕ} {r : Rules} → OfKind kind-1 s → FirstHeader s r → r ≡ plainRules kind-1
-plain-rules k f = declared-plain (k .is) (rw (one-saying (f .stands) (k .stands)) at (f .declares))
+plain-rules k f = declared-plain (k .is) (rw (said-same (f .stands) (k .stands)) at (f .declares))
 
 declared-kind-2 : {es : List Entry} {r : Rules} → KindIs es kind-2 → Declares es r → r .kind ≡ kind-2
 declared-kind-2 (with-edf-key h) (plain n e) = absurd (n h)
@@ -53,7 +42,7 @@ declared-kind-2 (with-edf-key h) (data-first d e) = ap (λ (r : Rules). r .kind)
 declared-kind-2 (with-edf-key h) (general-first g) = g .kind
 
 pub kind-2-rules : {s : List ℕ} {r : Rules} → OfKind kind-2 s → FirstHeader s r → r .kind ≡ kind-2
-kind-2-rules k f = declared-kind-2 (k .is) (rw (one-saying (f .stands) (k .stands)) at (f .declares))
+kind-2-rules k f = declared-kind-2 (k .is) (rw (said-same (f .stands) (k .stands)) at (f .declares))
 
 -- ---- The rows
 

@@ -16,9 +16,8 @@ use Rattle.blocks.specs.Judging.{blockAt}
 use Rattle.blocks.specs.Places.{kind-1, kind-2, StartsWithEdfKey}
 use Rattle.blocks.specs.declared.FileRules.{FileRules}
 use Rattle.blocks.specs.declared.Row.{Row}
-use Rattle.locality.specs.Blocks.{AcceptedFile, generalHeader, OfKind, Joinable, joinedRows, AloneBlock}
+use Rattle.locality.specs.Blocks.{AcceptedFile, generalHeader, OfKind, Joinable, joinedRows, HeaderAlone, AloneBlock}
 use Rattle.locality.specs.Moved.{movedOutcome, movedHeader, movedStatement, movedEntry, movedRow, movedAccepted}
-use Rattle.locality.proofs.Alone.{Fronted}
 use Rattle.locality.proofs.Alone
 use Rattle.locality.proofs.AloneBlocks
 use Rattle.locality.proofs.BlockShift
@@ -75,10 +74,10 @@ module _ (s : List ℕ) (a : ℕ) (inside : a ≤ length s) where
 
 -- As many bytes as hold a header are enough.
 pub header-alone : {s : List ℕ} {a : ℕ} {h : Header} {ts : List Statement} {es : List Entry} → HasHeader s a h ts es → (m : ℕ) → h .length ≤ m
-    → Fronted (take m (drop a s)) a h ts es
+    → HeaderAlone (take m (drop a s)) a h ts es
 header-alone = Alone.header-alone
 
--- ---- Two files of kind 1 end to end
+-- ---- Two concatenated files of kind 1
 
 -- They are accepted, with the rows of the first and those of the second with their starts moved by the first file's length.
 pub files-joined : (s t : List ℕ) {rows others : List Row} → Joinable s t rows others → AcceptedFile (s ++ t) (joinedRows (length s) rows others)

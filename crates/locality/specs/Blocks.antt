@@ -1,4 +1,4 @@
--- Accepted files, two of them end to end, and a block as a file of its own (02, No. 3). Facts about the files' bytes.
+-- Accepted files, two of them concatenated, and a block as a file of its own (02, No. 3). Facts about the files' bytes.
 use mathlib.Core.Path.{_≡_}
 use mathlib.Core.Bool.{cond}
 use mathlib.Core.List.{List, [], _∷_, _++_, map}
@@ -14,7 +14,7 @@ use Rattle.blocks.specs.Grammar.{HasHeader, Partition}
 use Rattle.blocks.specs.Limits.{fileLimit, blockLimit}
 use Rattle.blocks.specs.Places.{Kind, kind-1, kind-2, StartsWithEdfKey}
 use Rattle.blocks.specs.declared.Row.{Row}
-use Rattle.locality.specs.Moved.{startingAt, movedRow}
+use Rattle.locality.specs.Moved.{movedHeader, movedStatement, movedEntry, startingAt, movedRow}
 
 -- An accepted file: it has a partition, with these rows, and is within the limit.
 pub record AcceptedFile (s : List ℕ) (rows : List Row) : Type 0 where
@@ -30,7 +30,7 @@ abbrev pub generalHeader : List ℕ → List Row → Option (List ℕ)
 generalHeader s [] = none
 generalHeader s (first ∷ rows) = cond (eqb (first .kind) 0) (some (take (first .header) s)) none
 
--- ---- Two files end to end
+-- ---- Two concatenated files
 
 -- "A file is of kind 2 exactly if its first header has a statement and its key starts with `edf_`; else of kind 1."
 pub data KindIs (es : List Entry) : Kind → Type 0 where
@@ -58,6 +58,16 @@ abbrev pub joinedRows : ℕ → List Row → List Row → List Row
 joinedRows n rows others = rows ++ map (movedRow n) others
 
 -- ---- A block as a file of its own
+
+-- A header that stands at `a` in a file, with its statements and entries, at the front of a list of its own: the same, with offsets less by `a`.
+pub record HeaderAlone (l : List ℕ) (a : ℕ) (h : Header) (ts : List Statement) (es : List Entry) : Type 0 where
+  pub header : Header
+  pub statements : List Statement
+  pub entries : List Entry
+  pub stands : HasHeader l 0 header statements entries
+  pub header-is : h ≡ movedHeader a header
+  pub statements-are : ts ≡ map (movedStatement a) statements
+  pub entries-are : es ≡ map (movedEntry a) entries
 
 -- Block k of a file without a general header: its bytes alone have a partition into one block, with the same row but for its start.
 pub record AloneBlock (s : List ℕ) (k : ℕ) (row : Row) : Type 0 where

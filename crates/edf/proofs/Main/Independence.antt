@@ -1,4 +1,4 @@
--- The main theorems about blocks apart and files end to end (02, No. 3), stated of the calls as Main states them. `AcceptedFile`, `Joinable`
+-- The main theorems about the independence of blocks and about concatenated files (02, No. 3), stated of the calls as Main states them. `AcceptedFile`, `Joinable`
 -- and `AloneBlock` say of which files (crates/locality/specs/Blocks), `SameBlock`, `MovedBlock` and `MovedPlainBlock` of which
 -- blocks of two files (crates/keyword/specs/Shared), `SameAnswers`, `MovedAnswersFrom` and `MovedAnswers` what each call answers
 -- (specs/Independence).
@@ -37,7 +37,7 @@ pub opened-accepted : {s : List ℕ} {before after : List Row} {n : ℕ} → All
     → AcceptedFile s (take n after)
 opened-accepted = laws.opened-accepted
 
--- ---- Blocks apart
+-- ---- A block of two files
 
 -- "if two accepted files have the same row for a block and the same bytes in it, and the same general header or none in either, every value,
 -- description and pixel of that block is the same"
@@ -52,7 +52,7 @@ moved-block n b = laws.moved-answers-from n (b .1)
 pub moved-plain-block : (n : ℕ) {s t : List ℕ} {k j : ℕ} → MovedPlainBlock n s t k j → MovedAnswers n s t k j
 moved-plain-block n b = laws.moved-answers n (b .1) (b .2)
 
--- ---- Files end to end
+-- ---- Two concatenated files
 
 -- "two accepted files of kind 1 laid end to end, within the limits, are accepted, and the table is the first list of rows joined to the second
 -- with its starts moved by the first file's length"

@@ -9,7 +9,7 @@ pub mod rest;
 use super::plan::{BlockPlan, Plan, Statement};
 use super::random::Random;
 use super::valid;
-use crate::apart::{bytes_of, opened, shift, Pair};
+use crate::independence::{bytes_of, opened, shift, Pair};
 use crate::compare::Reader;
 use fit::Shape;
 
@@ -128,7 +128,7 @@ fn field_of(random: &mut Random, plan: &mut Plan, block: usize, share: usize) {
     }
 }
 
-/// Two files of kind 1 to be laid end to end; seldom of many blocks, or long.
+/// Two files of kind 1 to be concatenated; seldom of many blocks, or long.
 pub fn two_of_kind_1(seed: u64, number: usize) -> [Vec<u8>; 2] {
     let random = &mut numbers(8, seed, number);
     let counts = match random.below(200) {

@@ -2,7 +2,7 @@
 
 use super::edits;
 use super::fit::Shape;
-use crate::apart::Pair;
+use crate::independence::Pair;
 use crate::generate::plan::{BlockPlan, Plan};
 use crate::generate::random::Random;
 

@@ -2,7 +2,7 @@
 //! in either, is answered alike, positions and errors too.
 
 use crate::run::{kind, reached, rows, run, Shown};
-use edf_tests::apart::Pair;
+use edf_tests::independence::Pair;
 use edf_tests::generate::pairs::Law;
 
 const PAIRS: usize = 12_000;

@@ -1,5 +1,5 @@
-//! The laws of keeping blocks apart (02, No. 3), asked of any reader: a block that two accepted files share is answered alike in both, and
-//! files of kind 1 laid end to end are one file. Where a law's condition does not hold for the reader, the law asks nothing.
+//! The laws of independent blocks (02, No. 3), asked of any reader: a block that two accepted files share is answered alike in both, and
+//! concatenated files of kind 1 are one file. Where a law's condition does not hold for the reader, the law asks nothing.
 
 pub mod general;
 
@@ -81,16 +81,16 @@ pub fn shift(reader: Reader, pair: &Pair) -> Option<Shift> {
 }
 
 /// The law of two files: all that is answered on the block is the same; positions move with the block. None where the condition does not hold.
-pub fn kept_apart(reader: Reader, pair: &Pair) -> Result<Option<Answered>, Box<Breach>> {
+pub fn answered_alike(reader: Reader, pair: &Pair) -> Result<Option<Answered>, Box<Breach>> {
     let Some(shift) = shift(reader, pair) else { return Ok(None) };
     let calls = calls_on(&pair.one, pair.block, &pair.other, pair.other_block);
     let one = answers(reader, &pair.one, pair.block, &calls);
     same(one, answers(reader, &pair.other, pair.other_block, &calls), shift).map(Some)
 }
 
-/// The law of files end to end: two accepted files of kind 1, within the limits, are one file, whose table is that of the first and then that of
+/// The law of concatenated files: two accepted files of kind 1, within the limits, are one file, whose table is that of the first and then that of
 /// the second, its starts moved by the first file's length; and a block is answered as in its own file. None where the condition does not hold.
-pub fn end_to_end(reader: Reader, one: &[u8], other: &[u8]) -> Result<Option<Answered>, Box<Breach>> {
+pub fn concatenated(reader: Reader, one: &[u8], other: &[u8]) -> Result<Option<Answered>, Box<Breach>> {
     let (Some(first), Some(second)) = (opened(reader, one), opened(reader, other)) else { return Ok(None) };
     let in_limits = one.len() + other.len() <= LONGEST_FILE && first.len() + second.len() <= MOST_BLOCKS;
     if !in_limits || !of_kind_1(&first) || !of_kind_1(&second) {
@@ -184,12 +184,12 @@ mod tests {
 
     /// How many of the first pairs keep the law for this reader, break it, and ask nothing.
     fn outcomes(reader: Reader, law: Law) -> [usize; 3] {
-        let all = (0..60).filter_map(|number| pair(law, 3, number)).map(|pair| kept_apart(reader, &pair));
+        let all = (0..60).filter_map(|number| pair(law, 3, number)).map(|pair| answered_alike(reader, &pair));
         counted(all)
     }
 
     fn outcomes_joined(reader: Reader) -> [usize; 3] {
-        counted((0..20).map(|number| two_of_kind_1(3, number)).map(|[one, other]| end_to_end(reader, &one, &other)))
+        counted((0..20).map(|number| two_of_kind_1(3, number)).map(|[one, other]| concatenated(reader, &one, &other)))
     }
 
     fn counted(all: impl Iterator<Item = Result<Option<Answered>, Box<Breach>>>) -> [usize; 3] {

@@ -1,7 +1,7 @@
-//! Files of kind 1 laid end to end are one file: the rows of the first, then those of the second, moved; every block is answered as before.
+//! Concatenated files of kind 1 are one file: the rows of the first, then those of the second, moved; every block is answered as before.
 
 use crate::run::{counted, library, reached, rows, seed, share, shown, Shown};
-use edf_tests::apart::{end_to_end, opened};
+use edf_tests::independence::{concatenated, opened};
 use edf_tests::generate::pairs::two_of_kind_1;
 use edf_tests::parallel;
 
@@ -12,7 +12,7 @@ fn of_pair(number: usize) -> Shown {
     if opened(library, &one).is_none() || opened(library, &other).is_none() {
         return Shown::from(["dropped".to_string()]);
     }
-    match end_to_end(library, &one, &other) {
+    match concatenated(library, &one, &other) {
         Ok(Some(answered)) => shown(&answered).into_iter().chain(seams(&one, &other)).collect(),
         Ok(None) => panic!("seed {}, pair {number}: no files of kind 1, or too many blocks", seed()),
         Err(breach) => panic!("seed {}, pair {number}: {breach}", seed()),
@@ -36,7 +36,7 @@ const WANTED: [(&str, usize); 11] = [
 ];
 
 #[test]
-fn files_of_kind_1_end_to_end_are_one_file() {
+fn files_of_kind_1_concatenated_are_one_file() {
     let counts = counted(parallel::for_each(0..share(PAIRS), of_pair));
     reached("joined", PAIRS, &counts, &WANTED);
 }

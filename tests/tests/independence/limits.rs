@@ -1,8 +1,8 @@
-//! Files of kind 1 end to end at the limits: 256 blocks, and 1,073,741,824 bytes.
+//! Concatenated files of kind 1 at the limits: 256 blocks, and 1,073,741,824 bytes.
 
 use crate::run::{library, rows};
 use edf_tests::answer::{Answer, Call};
-use edf_tests::apart::{end_to_end, joined, opened};
+use edf_tests::independence::{concatenated, joined, opened};
 use edf_tests::both::{describe, find, read_array, read_pixel};
 use edf_tests::files::plain;
 use edf_tests::reader::{Pixel, Row, Span};
@@ -23,7 +23,7 @@ fn open(file: &[u8]) -> Answer {
 fn up_to_256_blocks_are_one_file() {
     for (first, second) in [(255, 1), (1, 255), (128, 128), (200, 56), (254, 1)] {
         let (one, other) = (blocks(first), blocks(second));
-        assert!(matches!(end_to_end(library, &one, &other), Ok(Some(_))), "{first} and {second}");
+        assert!(matches!(concatenated(library, &one, &other), Ok(Some(_))), "{first} and {second}");
     }
 }
 
@@ -51,7 +51,7 @@ fn two_halves(file: &mut [u8]) {
 }
 
 #[test]
-fn files_end_to_end_may_have_1073741824_bytes_and_no_more() {
+fn files_concatenated_may_have_1073741824_bytes_and_no_more() {
     let seam = LONGEST / 2;
     let mut memory = vec![0; LONGEST + 1];
     let file = &mut memory[..LONGEST];

@@ -2,7 +2,7 @@
 //! it, and only there. So the law of two files needs its condition.
 
 use crate::run::{counted, library, name, reached, seed, share, Shown};
-use edf_tests::apart::general::{general_counts, Seen};
+use edf_tests::independence::general::{general_counts, Seen};
 use edf_tests::generate::pairs::two_general_headers;
 use edf_tests::parallel;
 

@@ -2,7 +2,7 @@
 //! positions. The exception is a block of kind 1 that starts with an EDF_ key: alone it is of kind 2, or refused.
 
 use crate::run::{counted, kind, reached, rows, seed, share, shown, library, Shown};
-use edf_tests::apart::{kept_apart, opened, Pair};
+use edf_tests::independence::{answered_alike, opened, Pair};
 use edf_tests::generate::pairs::{drawn, Law};
 use edf_tests::parallel;
 use edf_tests::reader::opening::cut_anew;
@@ -32,7 +32,7 @@ fn of_pair(number: usize) -> Shown {
     }
     let kind = kind(&rows(&pair.one));
     let excepted = kind == "kind 1" && edf_key_first(&pair);
-    match kept_apart(library, &pair) {
+    match answered_alike(library, &pair) {
         Ok(Some(answered)) if !excepted => shown(&answered).into_iter().chain([kind.to_string()]).collect(),
         Ok(None) if excepted => otherwise(&pair),
         Ok(_) => panic!("seed {}, pair {number}: {kind}, an EDF_ key first: {excepted}", seed()),

@@ -1,7 +1,7 @@
 //! Running a law over generated pairs, and what these pairs show.
 
 use edf_tests::answer::{answer, Answer, Call};
-use edf_tests::apart::{kept_apart, opened, Answered, Pair};
+use edf_tests::independence::{answered_alike, opened, Answered, Pair};
 use edf_tests::generate::pairs::{pair, Law};
 use edf_tests::parallel;
 use edf_tests::reader::{Origin, Row};
@@ -45,7 +45,7 @@ pub fn rows(file: &[u8]) -> Vec<Row> {
 pub fn run(law: Law, pairs: usize, also: fn(&Pair) -> Shown) -> Counts {
     let of_pair = |number| match pair(law, seed(), number) {
         None => Shown::from(["dropped".to_string()]),
-        Some(pair) => match kept_apart(library, &pair) {
+        Some(pair) => match answered_alike(library, &pair) {
             Ok(Some(answered)) => {
                 let headers = spans_in_headers(&pair, &answered);
                 also(&pair).into_iter().chain(shown(&answered)).chain(headers).collect()

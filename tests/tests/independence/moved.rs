@@ -1,7 +1,7 @@
 //! A block that stands elsewhere in another file: all is answered alike, but positions move with the block. Those in a general header stay.
 
 use crate::run::{kind, reached, rows, run, Shown};
-use edf_tests::apart::Pair;
+use edf_tests::independence::Pair;
 use edf_tests::generate::pairs::Law;
 
 const PAIRS: usize = 3_500;

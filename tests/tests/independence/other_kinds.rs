@@ -1,8 +1,8 @@
-//! Files end to end where one is of kind 2. The law does not speak of these; 01 says what comes.
+//! Concatenated files where one is of kind 2. The law does not speak of these; 01 says what comes.
 
 use crate::run::{counted, library, reached, rows, seed, share, shown, Shown};
 use edf_tests::answer::{Answer, Call};
-use edf_tests::apart::{joined, kept_apart, Pair};
+use edf_tests::independence::{joined, answered_alike, Pair};
 use edf_tests::files::{data, general, padded, plain};
 use edf_tests::generate::pairs::two_of_kind_2;
 use edf_tests::parallel;
@@ -92,7 +92,7 @@ fn of_pair(number: usize) -> Shown {
     let file = [&one[..], &other].concat();
     let block = number % second.len();
     let pair = Pair { one: other, other: file, block, other_block: first.len() + block };
-    match kept_apart(library, &pair) {
+    match answered_alike(library, &pair) {
         Ok(Some(answered)) => shown(&answered),
         Ok(None) => panic!("seed {}, pair {number}: other rows", seed()),
         Err(breach) => panic!("seed {}, pair {number}: {breach}", seed()),

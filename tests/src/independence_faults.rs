@@ -1,9 +1,9 @@
-//! Faults that the laws of keeping blocks apart rule out, for copies of the second reader. Each is to be found by a law asked of the faulty
+//! Faults that the laws of independent blocks rule out, for copies of the second reader. Each is to be found by a law asked of the faulty
 //! reader alone, without another reader to compare it with.
 
 use crate::faults::{fault, Fault};
 
-pub const APART_FAULTS: &[Fault] = &[
+pub const INDEPENDENCE_FAULTS: &[Fault] = &[
     // A keyword is sought in other blocks.
     fault("keywords.rs", "[Some(own), general]", "[Some(own), general, block.checked_sub(1).and_then(|before| blocks.get(before))]"),
     fault("keywords.rs", "[Some(own), general]", "[Some(own), general, blocks.get(block + 1)]"),
@@ -40,7 +40,7 @@ pub const APART_FAULTS: &[Fault] = &[
     fault("describe.rs", "own.extent as i128, 20, 0)", "own.extent as i128, 20, own.header.start)"),
     fault("span.rs", "file.get(span.start..end)", "file.get(span.start..end).filter(|_| end <= 4_096)"),
     fault("origin.rs", "if stands_in(&blocks[block], value) =>", "if value.start >= 512 =>"),
-    // Files end to end: rows that do not move, bounds that are counted from the file's start, a block that takes bytes of the next.
+    // Concatenated files: rows that do not move, bounds that are counted from the file's start, a block that takes bytes of the next.
     fault("opening.rs", "start: block.header.start,", "start: block.header.start.min(1_024),"),
     fault("opening.rs", "start: block.header.start,", "start: block.header.start.next_multiple_of(512),"),
     fault("opening.rs", "length % i128::from(boundary) == 0", "(header.start as i128 + length) % i128::from(boundary) == 0"),
