@@ -21,7 +21,7 @@ use Rattle.blocks.specs.declared.Row.{Row}
 use Rattle.blocks.proofs.Answers.{file-accepted}
 use Rattle.blocks.proofs.PlaceLaws.{edf-decides}
 use Rattle.keyword.specs.Keyword.{View, isGeneral, generalEntries, viewOf, firstOf, lookupIn, entryOf}
-use Rattle.keyword.proofs.Views.{entries-read}
+use Rattle.keyword.proofs.Headers.{entries-read}
 use Rattle.fields.specs.Keyword.{HeaderHas, HeaderLacks, Inherits, HasKeyword, LacksKeyword}
 use Rattle.fields.proofs.HeaderLaws.{finds-in-header, one-in-header, row-headed, first-headed}
 use Rattle.fields.proofs.Present.{present-some, present-none}

@@ -1,3 +1,4 @@
+pub mod Headers
 pub mod Lookups
 pub mod Reading
 pub mod Shared

@@ -23,7 +23,7 @@ use Rattle.locality.proofs.BlockUp.{front}
 use Rattle.locality.proofs.Rows.{member-at}
 use Rattle.keyword.specs.Keyword.{View, entriesAt, generalEntries, viewOf}
 use Rattle.keyword.specs.Shared.{SharedBlock}
-use Rattle.keyword.proofs.Views.{entries-read}
+use Rattle.keyword.proofs.Headers.{entries-read}
 
 -- ---- The block's own header
 

@@ -25,7 +25,7 @@ use Rattle.blocks.proofs.BlockLaws.{block-inside, said-once}
 use Rattle.locality.proofs.Chains.{chain-behind}
 use Rattle.locality.proofs.Rows.{member-at}
 use Rattle.keyword.specs.Keyword.{entriesAt, generalEntries}
-use Rattle.keyword.proofs.Views.{entries-read}
+use Rattle.keyword.proofs.Headers.{entries-read}
 
 -- ---- In a header
 

@@ -13,7 +13,7 @@ use lib.Seq.{length-take-le, getD-take}
 use Rattle.scan.specs.Outcome.{Outcome, ok, failed, refused}
 use Rattle.scan.specs.declared.Error.{Error}
 use Rattle.scan.proofs.Cases.{by-option, by-outcome, by-order, none-some, ok-failed}
-use Rattle.header.specs.Entry.{Entry, bodyOf}
+use Rattle.header.specs.Entry.{bodyOf}
 use Rattle.header.specs.Frame.{headerAt}
 use Rattle.header.specs.Grammar.{IsHeader, Parse}
 use Rattle.header.specs.Statements.{statementsOf, leadingStatements}
@@ -22,12 +22,10 @@ use Rattle.header.specs.declared.Statement.{Statement}
 use Rattle.header.proofs.FrameLaws.{header-complete}
 use Rattle.header.proofs.Leading.{leading-chain}
 use Rattle.header.proofs.StatementLaws.{statements-complete}
-use Rattle.blocks.specs.Grammar.{HasHeader}
 use Rattle.blocks.specs.Opening.{opened, openedFile}
 use Rattle.blocks.specs.declared.Opened.the-variants.{Blocks, Failed}
 use Rattle.blocks.specs.declared.Row.{Row}
 use Rattle.blocks.proofs.Answers.{within-limit}
-use Rattle.blocks.proofs.BlockLaws.{said-once}
 use Rattle.blocks.proofs.Sound.{opened-sound}
 use Rattle.blocks.proofs.Unambiguous.{row-header, row-inside}
 use Rattle.locality.proofs.Rows.{member-at}
@@ -71,13 +69,6 @@ module _ (kind first : ℕ) where
 
   pub shared-by : kind ≡ 1 → eqb first 0 ≡ (eqb kind 1 && eqb first 0)
   shared-by e = rw (eq-eqb kind 1 e)
-
--- ---- What is read of a header
-
-pub entries-read : {s : List ℕ} {start : ℕ} {h : Header} {ts : List Statement} {es : List Entry} → HasHeader s start h ts es
-    → entriesAt s start ≡ ok es
-unfolding entriesAt
-entries-read {s} {start} {h} x = rw (header-complete (x .header), statements-complete s start h (x .parse), said-once x)
 
 -- ---- The header of a row
 
