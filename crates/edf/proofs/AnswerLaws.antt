@@ -68,8 +68,8 @@ stored-map n (ok a) = refl
 stored-map n (failed e) = refl
 
 module _ (n : ℕ) {s t : List ℕ} {k j : ℕ} {row : Row} (b : SharedBlock s t k j row (movedRow n row)) where
-  stored-moved : (order : ℕ) → storedBy (storedArray t j order) ≡ movedStored n (storedBy (storedArray s k order))
-  stored-moved order = ap storedBy (stored-moved n b order) ∙ stored-map n (storedArray s k order)
+  stored-answer : (order : ℕ) → storedBy (storedArray t j order) ≡ movedStored n (storedBy (storedArray s k order))
+  stored-answer order = ap storedBy (stored-moved n b order) ∙ stored-map n (storedArray s k order)
 
   pub moved-answers-from : MovedAnswersFrom (row .start) n s t k j
   moved-answers-from =
@@ -77,13 +77,13 @@ module _ (n : ℕ) {s t : List ℕ} {k j : ℕ} {row : Row} (b : SharedBlock s t
       answers n b (movedLocatedFrom start n) (movedStored n)
       (λ key. ap locatedBy (found-moved-from n b key)
       ∙ located-map (movedFrom start n) (movedLocatedFrom start n) (λ p. refl) (λ e. refl) (found s k key))
-      stored-moved
+      stored-answer
 
   pub moved-answers : generalHeader s (b .rows) ≡ none → MovedAnswers n s t k j
   moved-answers g =
       answers n b (movedLocated n) (movedStored n)
       (λ key. ap locatedBy (found-moved n b key g) ∙ located-map (movedSpan n) (movedLocated n) (λ p. refl) (λ e. refl) (found s k key))
-      stored-moved
+      stored-answer
 
 -- ---- What `open` accepts
 
