@@ -1,6 +1,6 @@
 -- The rules of a file as the code holds them: a number for the kind, and 0 for the data blocks asked for where there is no general
 -- header.
-use mathlib.Core.Path.{_≡_, refl}
+use mathlib.Core.Path.{_≡_, refl, ap}
 use mathlib.Core.Logic.{_≢_}
 use mathlib.Core.List.{List}
 use mathlib.Core.Option.{Option, none, some}
@@ -21,6 +21,14 @@ abbrev pub kindNumber : Kind → ℕ
 kindNumber kind-1 = 1
 kindNumber kind-2 = 2
 
+pub kinds-differ : kind-1 ≡ kind-2 → ⊥
+kinds-differ e = omega (arith, ap kindNumber e)
+
+-- A file is of one kind or the other.
+pub by-kind : {A : Type 0} (k : Kind) → (k ≡ kind-1 → A) → (k ≡ kind-2 → A) → A
+by-kind kind-1 f g = f refl
+by-kind kind-2 f g = g refl
+
 abbrev pub askedOf : Option ℕ → ℕ
 askedOf none = 0
 askedOf (some n) = n
@@ -38,7 +46,7 @@ pub record Asking (r : Rules) : Type 0 where
 in-kind-2 : {kind : Kind} {es : List Entry} {key value : List ℕ} → CountsIn kind es key value → kindNumber kind ≡ 2
 in-kind-2 (counts c) = refl
 
-none-counts : {es : List Entry} {key value : List ℕ} → CountsIn kind-1 es key value → ⊥
+pub none-counts : {es : List Entry} {key value : List ℕ} → CountsIn kind-1 es key value → ⊥
 none-counts c = omega (arith, in-kind-2 c)
 
 module _ {es : List Entry} (distinct : DistinctKeys es) where

@@ -16,10 +16,10 @@ use Rattle.blocks.specs.Counting.{first, second, isEdfKey, counting}
 use Rattle.blocks.specs.Grammar.{Rules, GeneralHeader, plainRules, Declares, plain, data-first, general-first}
 use Rattle.blocks.specs.Judging.{rulesWith, generalRules, rulesOf}
 use Rattle.blocks.specs.Keys.{VersionKey, DataBlocksKey, BlockIDKey, BoundaryKey}
-use Rattle.blocks.specs.Places.{kind-1, kind-2}
+use Rattle.blocks.specs.Places.{kind-1, kind-2, HasKey, IsEdfKey, StartsWithEdfKey}
 use Rattle.blocks.specs.Reading.{numberOr, askedFor, isVersion}
 use Rattle.blocks.specs.declared.FileRules.{FileRules}
-use Rattle.blocks.proofs.Coded.{kindNumber, askedOf, coded, Asking, counting-reads}
+use Rattle.blocks.proofs.Coded.{kindNumber, kinds-differ, askedOf, coded, Asking, counting-reads}
 use Rattle.blocks.proofs.PlaceLaws.{DistinctKeys, has-key, key-at, value-at, starts-decides}
 use Rattle.blocks.proofs.ValueLaws.{number-sound, number-complete, asked-sound, asked-complete, asked-positive}
 use Rattle.blocks.proofs.VersionLaws.{version-sound, version-complete}
@@ -118,7 +118,7 @@ module _ {es : List Entry} (distinct : DistinctKeys es) where
       (λ k. record {
         rules = plainRules kind-1;
         declares = plain (refuted (starts-decides es) k) refl;
-        are = let q : some (rulesWith 1 512 0) ≡ some r = rw k at e in cc;
+        are = let q : some (rulesWith 1 1 0) ≡ some r = rw k at e in cc;
       })
 
   pub rules-complete : {r : Rules} → Declares es r → rulesOf es ≡ some (coded r)
@@ -139,3 +139,26 @@ declares-asking {r = r} (general-first g) = record { some-asked = asked }
         let same : _≡_ (some (g .count)) (some n) = sym (g .general) ∙ h in
         let e : g .count ≡ n = cc in
         omega (arith, asked-positive (g .asks))
+
+-- ---- The kind that a first header gives
+
+-- A key that the rules name for a first header is an EDF_ key.
+starts-edf : {es : List Entry} {key value : List ℕ} → IsEdfKey key → HasKey es 0 key value → StartsWithEdfKey es
+starts-edf i h = record { entry = h .entry; at = h .at; edf = rw (h .key-is) i }
+
+module _ {es : List Entry} {r : Rules} where
+  -- "A file is of kind 2 exactly if its first header has a statement and its key starts with `edf_`; else of kind 1."
+  pub declares-edf : Declares es r → r .kind ≡ kind-2 → StartsWithEdfKey es
+  declares-edf (plain n e) k = absurd (kinds-differ (sym (ap (λ (x : Rules). x .kind) e) ∙ k))
+  declares-edf (data-first h e) k = starts-edf (record { rest = _; is = refl }) h
+  declares-edf (general-first g) k = starts-edf (record { rest = _; is = refl }) (g .version-key)
+
+  pub edf-declares : Declares es r → StartsWithEdfKey es → r .kind ≡ kind-2
+  edf-declares (plain n e) h = absurd (n h)
+  edf-declares (data-first d e) h = ap (λ (x : Rules). x .kind) e
+  edf-declares (general-first g) h = g .kind
+
+  pub plain-declares : Declares es r → (StartsWithEdfKey es → ⊥) → r ≡ plainRules kind-1
+  plain-declares (plain m e) n = e
+  plain-declares (data-first h e) n = absurd (n (starts-edf (record { rest = _; is = refl }) h))
+  plain-declares (general-first g) n = absurd (n (starts-edf (record { rest = _; is = refl }) (g .version-key)))

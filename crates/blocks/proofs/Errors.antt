@@ -4,14 +4,14 @@ use Prim.Native.Nat.{ℕ, _≤_}
 use native.Mathlib.Omega.{arith}
 use lib.ListN.{length}
 use Rattle.scan.specs.declared.Error.{Error}
-use Rattle.scan.proofs.Chains.{chain-inside}
 use Rattle.header.specs.Cases.{FrameError, no-start, bad-byte, no-end, StatementsError, malformed, too-long, key-twice}
 use Rattle.header.specs.Entry.{Entry}
 use Rattle.header.specs.declared.Header.{Header}
-use Rattle.blocks.specs.Cases.{KeyError, rule-broken, file-name, bad-length, past-end, BlockError, in-frame, in-statements, no-rules, in-keys, Passed, FileError, first-block, later-block, identity-twice, too-many, wrong-count}
-use Rattle.blocks.specs.Grammar.{Rules, IsBlock}
-use Rattle.blocks.specs.declared.Row.{Row}
-use Rattle.blocks.proofs.BlockLaws.{block-inside}
+use Rattle.blocks.specs.Cases.{KeyError, rule-broken, file-name, bad-length, past-end, BlockError, in-frame, in-statements, no-rules, in-keys, FirstAt, at-brace, at-zero, FileError, first-block, later-block, identity-twice, too-many, wrong-count}
+use Rattle.blocks.specs.Grammar.{Rules}
+use Rattle.blocks.proofs.BlockPlaces.{block-inside}
+use Rattle.blocks.proofs.Gaps.{next-inside}
+use Rattle.blocks.proofs.Sound.{passed-inside}
 
 pub record Bounded (s : List ℕ) (e : Error) : Type 0 where
   pub position : e .position ≤ length s
@@ -42,13 +42,13 @@ module _ {s : List ℕ} where
     block-bounded (no-rules k n) = omega arith
     block-bounded (in-keys k d q) = keys-bounded q
 
-  passed-inside : {r : Rules} {rows : List Row} {at : ℕ} → Passed s r rows at → at ≤ length s
-  passed-inside {r} {rows} {at} p =
-      chain-inside (IsBlock s r) (length s) (λ k x n b. block-inside b .1) at 0 rows (omega arith) (p .blocks)
+  first-inside : {at : ℕ} → FirstAt s at → at ≤ length s
+  first-inside (at-brace n p) = next-inside s (omega arith) n
+  first-inside (at-zero n p) = omega arith
 
   pub error-bounded : {e : Error} → FileError s e → Bounded s e
-  error-bounded (first-block q) = block-bounded 0 (omega arith) q
-  error-bounded (later-block p few n q) = block-bounded _ (passed-inside p) q
-  error-bounded (identity-twice p few b q) = omega (arith, passed-inside p)
-  error-bounded (too-many p full n) = omega (arith, passed-inside p)
-  error-bounded (wrong-count p n) = omega arith
+  error-bounded (first-block x q) = block-bounded _ (first-inside x) q
+  error-bounded (later-block p few x n q) = block-bounded _ (next-inside s (passed-inside p) x) q
+  error-bounded (identity-twice p few b q) = omega (arith, block-inside (b .block))
+  error-bounded (too-many p full x n) = omega (arith, next-inside s (passed-inside p) x)
+  error-bounded (wrong-count p g n) = omega arith

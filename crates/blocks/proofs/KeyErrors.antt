@@ -50,7 +50,7 @@ multiple-decides boundary length =
     (λ m. ap (λ (k : ℕ). k % boundary) (m .1) ∙ mul-mod-left (m .0) boundary)
     (eqb-decides (length % boundary) 0)
 
-module _ (r : Rules) (asking : Asking r) {b : Bool} {start : ℕ} (rank : IsFirst b start) (end header : ℕ) {es : List Entry} (distinct : DistinctKeys es) where
+module _ (r : Rules) (asking : Asking r) {b : Bool} {start : ℕ} (rank : IsFirst (r .kind) b start) (end header : ℕ) {es : List Entry} (distinct : DistinctKeys es) where
   -- The values that `judged` looks at.
   abbrev sizeText : Option (List ℕ)
   sizeText = sizeValue (kindNumber (r .kind)) es

@@ -3,7 +3,7 @@ use mathlib.Core.Path.{_≡_}
 use mathlib.Core.Logic.{_↔_}
 use mathlib.Core.List.{List, map, List·Memᴰ}
 use mathlib.Core.Option.{some}
-use Prim.Native.Nat.{ℕ, _+_, _≤_}
+use Prim.Native.Nat.{ℕ, _+_, _≤_, _<_}
 use lib.IntN.{ℤ}
 use lib.ListN.{length, take}
 use Rattle.scan.specs.Byte.{bytesAt}
@@ -16,6 +16,7 @@ use Rattle.lexical.specs.Whole.{IsWhole}
 use Rattle.lexical.proofs.TrimLaws.{trimmed-is}
 use Rattle.lexical.proofs.ValueLaws.{value-is}
 use Rattle.lexical.proofs.WholeLaws.{whole-is}
+use Rattle.header.specs.Cases.{FrameError}
 use Rattle.header.specs.Entries.{entries, valueIn}
 use Rattle.header.specs.Entry.{Entry, bodyOf, key}
 use Rattle.header.specs.Grammar.{IsHeader, Distinct, Parse, SayAll}
@@ -25,17 +26,22 @@ use Rattle.header.proofs.SayLaws.{entries-say, entries-only}
 use Rattle.header.proofs.Spans.{InHeader}
 use Rattle.header.proofs.Spans
 use Rattle.header.proofs.Unambiguous as header
-use Rattle.blocks.specs.Cases.{Passed, FileError}
+use Rattle.blocks.specs.Cases.{NextAt, ProvesKind2, ZeroFrameError, Passed, FileError}
 use Rattle.blocks.specs.Counting.{counting, countingIn, sizeValue}
 use Rattle.blocks.specs.Grammar.{Rules, DistinctIdentities, Partition, Block, Cut, BlockHeader}
 use Rattle.blocks.specs.Opening.{opened, openedFile}
-use Rattle.blocks.specs.Places.{Kind, kind-2, EntryAt, Counts, CountsIn, SizeIs}
+use Rattle.blocks.specs.Places.{Kind, kind-1, kind-2, EntryAt, Counts, CountsIn, SizeIs}
 use Rattle.blocks.specs.declared.Row.{Row}
 use Rattle.blocks.proofs.Answers.{opened-error, file-accepted}
 use Rattle.blocks.proofs.Coded.{kindNumber, kind-reads, size-reads}
 use Rattle.blocks.proofs.Complete
+use Rattle.blocks.proofs.Covered.{Covered}
+use Rattle.blocks.proofs.Covered
 use Rattle.blocks.proofs.Errors.{Bounded}
 use Rattle.blocks.proofs.Errors
+use Rattle.blocks.proofs.FirstErrors
+use Rattle.blocks.proofs.KindErrors.{HeadsKind2}
+use Rattle.blocks.proofs.KindErrors
 use Rattle.blocks.proofs.PlaceLaws.{DistinctKeys, counting-is}
 use Rattle.blocks.proofs.Prefix
 use Rattle.blocks.proofs.Sound
@@ -115,7 +121,20 @@ module _ (s : List ℕ) where
   pub errors : {e : Error} → (opened s ≡ failed e) ↔ FileError s e
   errors = (Sound.error-sound s, Complete.error-complete s)
 
+  -- 11 "in kind 2 only": its first header starts with an EDF_ key.
+  pub length-errors : {e : Error} → FileError s e → e .code ≡ 11 → HeadsKind2 s
+  length-errors = KindErrors.length-error
+
+  -- The first header, where it proves kind 2: "3 at 0 comes where no start pattern stands at 0, then 5 at 0 where pattern and header
+  -- together pass 65,536", and nothing else is wrong with its frame.
+  pub first-of-kind-2 : {at : ℕ} → NextAt s kind-1 0 at → (p : ProvesKind2 s at) → {e : Error} → FrameError s 0 e ↔ ZeroFrameError s at (p .header) e
+  first-of-kind-2 n p = FirstErrors.zero-frame n p
+
   -- ---- Nothing is invented
+
+  -- "in a cut the blocks and such white together use up every byte": each is in a block, or is whitespace in kind 1.
+  pub every-byte : {rows : List Row} (c : Partition s rows) (k : ℕ) → k < length s → Covered s (c .rules .kind) rows k
+  every-byte = Covered.every-byte
 
   -- Every row lies inside the file.
   pub row-inside : {rows : List Row} → Partition s rows → {row : Row} → List·Memᴰ row rows → row .start + row .header + row .size ≤ length s
@@ -132,8 +151,8 @@ module _ (s : List ℕ) where
   -- ---- For later proofs
 
   -- The blocks before an offset do not depend on what follows it.
-  pub blocks-before : (t : List ℕ) (n : ℕ) → take n s ≡ take n t → {r : Rules} {rows : List Row} {at : ℕ} → at ≤ n
-      → Passed s r rows at → Passed t r rows at
+  pub blocks-before : (t : List ℕ) (n : ℕ) → take n s ≡ take n t → {r : Rules} {rows : List Row} {end : ℕ} → end ≤ n
+      → Passed s r rows end → Passed t r rows end
   blocks-before t n = Prefix.passed-local n s t
 
   -- The keys of a header are distinct, and so are the identities of a file.

@@ -20,15 +20,16 @@ use Rattle.blocks.specs.Places.{Kind, kind-1, kind-2}
 use Rattle.blocks.specs.Reading.{identityOf}
 use Rattle.blocks.specs.declared.Role.{Role}
 use Rattle.blocks.specs.declared.Row.{Row}
-use Rattle.blocks.proofs.Coded.{kindNumber, askedOf, coded, Asking}
+use Rattle.blocks.proofs.Coded.{kindNumber, kinds-differ, askedOf, coded, Asking}
 use Rattle.blocks.proofs.Declarations.{same-itself, not-empty}
 use Rattle.blocks.proofs.IdentityLaws.{identity-sound, identity-complete, identity-named}
 use Rattle.blocks.proofs.PlaceLaws.{has-key, key-at, value-at}
 
--- Whether a block is the first: the first stands at 0, the others do not.
-pub data IsFirst : Bool → ℕ → Type 0 where
-  is-first : IsFirst true 0
-  is-later : {start : ℕ} → start ≢ 0 → IsFirst false start
+-- Whether a block is the first of a file of a kind: in kind 2 the first stands at 0; the others do not.
+pub data IsFirst (kind : Kind) : Bool → ℕ → Type 0 where
+  is-first : IsFirst kind true 0
+  is-plain : {start : ℕ} → kind ≡ kind-1 → IsFirst kind true start
+  is-later : {start : ℕ} → start ≢ 0 → IsFirst kind false start
 
 -- The role that a row states.
 abbrev pub roleIn : Row → Role
@@ -46,35 +47,43 @@ unnamed-is row k e n = λ i.
 abbrev isGeneral : Bool → Rules → Bool
 isGeneral b r = b && not (eqb (askedOf (r .general)) 0)
 
-module _ {r : Rules} (asking : Asking r) where
-  general-test : {b : Bool} {start n : ℕ} → IsFirst b start → r .general ≡ some n → start ≡ 0 → isGeneral b r ≡ true
+module _ {r : Rules} (asking : Asking r) (two : r .kind ≡ kind-2) where
+  not-plain : {A : Type 0} → r .kind ≡ kind-1 → A
+  not-plain one = absurd (kinds-differ (sym one ∙ two))
+
+  general-test : {b : Bool} {start n : ℕ} → IsFirst (r .kind) b start → r .general ≡ some n → start ≡ 0 → isGeneral b r ≡ true
   general-test {n = n} is-first g z = rw (g, ne-eqb n 0 (asking .some-asked n g))
+  general-test (is-plain one) g z = not-plain one
   general-test (is-later m) g z = absurd (m z)
 
-  data-test : {b : Bool} {start : ℕ} → IsFirst b start → (r .general ≡ none) ⊎ (start ≢ 0) → isGeneral b r ≡ false
+  data-test : {b : Bool} {start : ℕ} → IsFirst (r .kind) b start → (r .general ≡ none) ⊎ (start ≢ 0) → isGeneral b r ≡ false
   data-test is-first (inl g) = rw g
   data-test is-first (inr n) = absurd (n refl)
+  data-test (is-plain one) d = not-plain one
   data-test (is-later n) d = refl
 
   -- And back.
-  tested-general : {b : Bool} {start : ℕ} → IsFirst b start → isGeneral b r ≡ true → ((n : ℕ) × (r .general ≡ some n)) × (start ≡ 0)
+  tested-general : {b : Bool} {start : ℕ} → IsFirst (r .kind) b start → isGeneral b r ≡ true
+      → ((n : ℕ) × (r .general ≡ some n)) × (start ≡ 0)
   tested-general is-first e =
       by-option (r .general) (λ g. absurd (false≢true (rw g at e))) (λ n g. ((n, g), refl))
+  tested-general (is-plain one) e = not-plain one
   tested-general (is-later n) e = absurd (false≢true e)
 
-  tested-data : {b : Bool} {start : ℕ} → IsFirst b start → isGeneral b r ≡ false → (r .general ≡ none) ⊎ (start ≢ 0)
+  tested-data : {b : Bool} {start : ℕ} → IsFirst (r .kind) b start → isGeneral b r ≡ false → (r .general ≡ none) ⊎ (start ≢ 0)
   tested-data is-first e =
       by-option (r .general) (λ g. inl g)
       (λ n g. absurd (asking .some-asked n g (eqb-true n 0 (not-false (eqb n 0) (rw g at e)))))
+  tested-data (is-plain one) e = not-plain one
   tested-data (is-later n) e = inr n
 
-module _ (r : Rules) (asking : Asking r) {b : Bool} {start : ℕ} (rank : IsFirst b start) (es : List Entry) where
+module _ (r : Rules) (asking : Asking r) {b : Bool} {start : ℕ} (rank : IsFirst (r .kind) b start) (es : List Entry) where
   pub role-complete : {row : Row} → HasRole r start es row → roleOf (coded r) b es ≡ some (roleIn row)
   unfolding roleOf
   role-complete {row} (plain-block k a n) = rw k (ap some (unnamed-is row 1 a n))
-  role-complete {row} (general-block k g z a n) = rw (k, general-test asking rank g z) (ap some (unnamed-is row 0 a n))
+  role-complete {row} (general-block k g z a n) = rw (general-test asking k rank g z, k) (ap some (unnamed-is row 0 a n))
   role-complete {row} (data-block k d a e i) =
-      rw (k, data-test asking rank d, key-at e, same-itself BlockIDKey, value-at e, identity-complete i)
+      rw (data-test asking k rank d, k, key-at e, same-itself BlockIDKey, value-at e, identity-complete i)
       (ap some (λ j. record { kind = sym a j; identity = record { sequence = row .sequence; instance = row .instance; memory = row .memory } }))
 
   -- The row of a role, wherever its block stands.
@@ -97,7 +106,7 @@ module _ (r : Rules) (asking : Asking r) {b : Bool} {start : ℕ} (rank : IsFirs
           by-test (isGeneral b r)
           (λ g. let q : some (unnamed 0) ≡ some role = rw (k, g) at e in
           let p : unnamed 0 ≡ role = cc in
-          let t = tested-general asking rank g in
+          let t = tested-general asking k rank g in
           subst Has p (general-block k (t .0 .1) (t .1) refl none-named))
           (λ g. by-test (same (first es .key) BlockIDKey)
           (λ d. by-option (identityOf (first es .value))
@@ -105,7 +114,7 @@ module _ (r : Rules) (asking : Asking r) {b : Bool} {start : ℕ} (rank : IsFirs
           (λ i f. let q : some (record { kind = 1; identity = i }) ≡ some role = rw (k, g, d, f) at e in
           let p : record { kind = 1; identity = i } ≡ role = cc in
           subst Has p
-          (data-block k (tested-data asking rank g) refl (has-key es 0 (not-empty (λ z. omega arith)) (decided (same-decides _ _) d))
+          (data-block k (tested-data asking k rank g) refl (has-key es 0 (not-empty (λ z. omega arith)) (decided (same-decides _ _) d))
           (identity-sound f))))
           (λ d. absurd (none-some (rw (k, g, d) at e))))
 
@@ -119,3 +128,15 @@ role-named (plain-block k a n) =
     record { is = ((λ i. absurd (i (n .instance))), (λ h. absurd (omega (arith, ap kindNumber (sym k ∙ h .0))))) }
 role-named (general-block k g z a n) = record { is = ((λ i. absurd (i (n .instance))), (λ h. absurd (omega (arith, a, h .1)))) }
 role-named (data-block k d a e i) = record { is = ((λ j. (k, a)), (λ h. identity-named i)) }
+
+-- A general block starts a file of kind 2.
+module _ {r : Rules} {start : ℕ} {es : List Entry} {row : Row} where
+  pub general-start : HasRole r start es row → row .kind ≡ 0 → start ≡ 0
+  general-start (plain-block k a n) z = absurd (omega arith)
+  general-start (general-block k g s a n) z = s
+  general-start (data-block k d a e i) z = absurd (omega arith)
+
+  pub general-two : HasRole r start es row → row .kind ≡ 0 → r .kind ≡ kind-2
+  general-two (plain-block k a n) z = absurd (omega arith)
+  general-two (general-block k g s a n) z = k
+  general-two (data-block k d a e i) z = absurd (omega arith)

@@ -8,9 +8,10 @@ use lib.ListN.{length}
 use Rattle.scan.specs.Outcome.{ok}
 use Rattle.scan.proofs.Chains.{chain-member}
 use Rattle.header.specs.Grammar.{IsHeader}
-use Rattle.blocks.specs.Grammar.{IsBlock, Partition, Block, Cut, BlockHeader, blockOf}
+use Rattle.blocks.specs.Grammar.{Gap, IsBlock, SpacedBlock, Partition, Block, Cut, BlockHeader, blockOf}
 use Rattle.blocks.specs.declared.Row.{Row}
 use Rattle.blocks.proofs.Complete.{opened-complete}
+use Rattle.blocks.proofs.Roles.{general-start}
 
 module _ {s : List ℕ} where
   -- ---- One partition
@@ -25,7 +26,12 @@ module _ {s : List ℕ} where
 
   module _ {rows : List Row} (c : Partition s rows) {row : Row} (m : List·Memᴰ row rows) where
     pub block-of : (at : ℕ) × (next : ℕ) × IsBlock s (c .rules) at row next
-    block-of = chain-member (IsBlock s (c .rules)) (λ at. at ≡ length s) 0 rows (c .blocks) m
+    block-of =
+        let x = chain-member (SpacedBlock s (c .rules)) (λ at. Gap s (c .rules .kind) at (length s)) 0 rows (c .blocks) m in
+        (row .start, x .1, x .2 .block)
+
+    pub general-row : row .kind ≡ 0 → row .start ≡ 0
+    general-row z = let b = block-of .2 in b .starts ∙ general-start (b .rules .role) z
 
     pub row-header : BlockHeader s (blockOf row)
     row-header =

@@ -2,20 +2,22 @@
 -- says how a file is read.
 use mathlib.Core.Path.{_≡_}
 use mathlib.Core.Logic.{_≢_}
+use mathlib.Core.Bool.{false}
 use mathlib.Core.List.{List, List·Memᴰ}
 use Prim.Native.Nat.{ℕ, _+_, _≤_, _<_}
 use lib.ListN.{length}
-use Rattle.scan.specs.Byte.{ascii}
+use Rattle.scan.specs.Byte.{byte, ascii}
 use Rattle.scan.specs.Chain.{Chain}
 use Rattle.scan.specs.Outcome.{errorAt}
 use Rattle.scan.specs.declared.Error.{Error}
-use Rattle.header.specs.Entry.{Entry}
-use Rattle.header.specs.Cases.{FrameError, StatementsError}
-use Rattle.header.specs.Grammar.{IsHeader}
+use Rattle.text.specs.Whitespace.{whitespace}
+use Rattle.header.specs.Entry.{Entry, bodyOf}
+use Rattle.header.specs.Cases.{NoStart, FrameError, Statements, StatementsError}
+use Rattle.header.specs.Grammar.{StartPattern, IsHeader, SayAll}
 use Rattle.header.specs.declared.Header.{Header}
 use Rattle.header.specs.declared.Statement.{Statement}
-use Rattle.blocks.specs.Grammar.{Rules, Declares, HasRole, HasSize, MultipleOf, HasHeader, IsBlock, FirstHeader, SameIdentity, DistinctIdentities, CountIs}
-use Rattle.blocks.specs.Places.{kind-2, CountsIn}
+use Rattle.blocks.specs.Grammar.{Rules, Declares, HasRole, HasSize, MultipleOf, HasHeader, Gap, SpacedBlock, FirstHeader, SameIdentity, DistinctIdentities, CountIs}
+use Rattle.blocks.specs.Places.{Kind, kind-1, kind-2, StartsWithEdfKey, CountsIn}
 use Rattle.blocks.specs.Values.{Absent, WholeOrAbsent, LengthOrAbsent}
 use Rattle.blocks.specs.declared.Row.{Row}
 
@@ -58,13 +60,44 @@ pub data BlockError (s : List ℕ) (RulesAre : List Entry → Rules → Type 0) 
   in-keys : {h : Header} {ts : List Statement} {es : List Entry} {r : Rules} {e : Error} → HasHeader s start h ts es → RulesAre es r
       → KeyError r start (length s) (h .length) es e → BlockError s RulesAre start e
 
+-- ---- Where a block is looked for
+
+-- The first offset from `end` on that can be in a block of a file of a kind: in kind 2 `end` itself, in kind 1 "the first non-white
+-- byte". Where only whitespace is left that is the file's length, for past the end no whitespace stands.
+pub record NextAt (s : List ℕ) (kind : Kind) (end at : ℕ) : Type 0 where
+  pub gap : Gap s kind end at
+  pub visible : kind ≡ kind-1 → whitespace (byte s at) ≡ false
+
+-- The header at an offset, as the first of a file, "proves kind 2": it is whole and "has passed check 6", since its statements are well
+-- formed, and the first of them has an EDF_ key.
+pub record ProvesKind2 (s : List ℕ) (at : ℕ) : Type 0 where
+  pub header : Header
+  pub statements : List Statement
+  pub entries : List Entry
+  pub stands : IsHeader s at header
+  pub shape : Statements s header statements
+  pub says : SayAll (bodyOf s header) statements entries
+  pub edf : StartsWithEdfKey entries
+
+-- Where the first block is judged. "Until the first header has passed check 6 it is judged as kind 1, its place and its 65,536 bytes
+-- counted from the brace", at the first non-white byte; "if the first header proves kind 2", it is judged at 0.
+pub data FirstAt (s : List ℕ) : ℕ → Type 0 where
+  at-brace : {at : ℕ} → NextAt s kind-1 0 at → (ProvesKind2 s at → ⊥) → FirstAt s at
+  at-zero : {at : ℕ} → NextAt s kind-1 0 at → ProvesKind2 s at → FirstAt s 0
+
+-- What can be wrong with the frame of such a header, h from its brace at `at`, judged at 0: "3 at 0 comes where no start pattern stands
+-- at 0, then 5 at 0 where pattern and header together pass 65,536".
+pub data ZeroFrameError (s : List ℕ) (at : ℕ) (h : Header) : Error → Type 0 where
+  no-pattern : NoStart s 0 → ZeroFrameError s at h (errorAt 3 0)
+  too-long : StartPattern s 0 at → 65536 < at + h .length → ZeroFrameError s at h (errorAt 5 0)
+
 -- ---- The file
 
--- Blocks that pass: they stand end to end from 0 up to `at`, under the rules that the first header gives, with distinct
--- identities.
-pub record Passed (s : List ℕ) (r : Rules) (rows : List Row) (at : ℕ) : Type 0 where
+-- Blocks that pass: they stand from 0 up to `end`, with whitespace between them in kind 1, under the rules that the first header
+-- gives, with distinct identities.
+pub record Passed (s : List ℕ) (r : Rules) (rows : List Row) (end : ℕ) : Type 0 where
   pub first-header : FirstHeader s r
-  pub blocks : Chain (IsBlock s r) (λ end. end ≡ at) 0 rows
+  pub blocks : Chain (SpacedBlock s r) (λ at. at ≡ end) 0 rows
   pub not-empty : 1 ≤ length rows
   pub few : length rows ≤ 256
   pub identities : r .kind ≡ kind-2 → DistinctIdentities rows
@@ -80,15 +113,15 @@ pub record Repeats (r : Rules) (rows : List Row) (x : Row) : Type 0 where
 -- block; 15 last".
 pub data FileError (s : List ℕ) : Error → Type 0 where
   -- 3 to 12 of the first block, whose own header gives the rules, and of a later one
-  first-block : {e : Error} → BlockError s Declares 0 e → FileError s e
-  later-block : {r : Rules} {rows : List Row} {at : ℕ} {e : Error} → Passed s r rows at → length rows < 256 → at ≢ length s
-      → BlockError s (λ es x. x ≡ r) at e → FileError s e
+  first-block : {at : ℕ} {e : Error} → FirstAt s at → BlockError s Declares at e → FileError s e
+  later-block : {r : Rules} {rows : List Row} {end at : ℕ} {e : Error} → Passed s r rows end → length rows < 256
+      → NextAt s (r .kind) end at → at ≢ length s → BlockError s (λ es x. x ≡ r) at e → FileError s e
   -- 13: "identity twice"
-  identity-twice : {r : Rules} {rows : List Row} {at next : ℕ} {row : Row} → Passed s r rows at → length rows < 256
-      → IsBlock s r at row next → Repeats r rows row → FileError s (errorAt 13 at)
-  -- 14: "bytes left after 256 blocks"
-  too-many : {r : Rules} {rows : List Row} {at : ℕ} → Passed s r rows at → length rows ≡ 256 → at ≢ length s
-      → FileError s (errorAt 14 at)
+  identity-twice : {r : Rules} {rows : List Row} {end next : ℕ} {row : Row} → Passed s r rows end → length rows < 256
+      → SpacedBlock s r end row next → Repeats r rows row → FileError s (errorAt 13 (row .start))
+  -- 14: "bytes left after 256 blocks"; it "in kind 1 needs a non-white byte left, and its place is that byte"
+  too-many : {r : Rules} {rows : List Row} {end at : ℕ} → Passed s r rows end → length rows ≡ 256
+      → NextAt s (r .kind) end at → at ≢ length s → FileError s (errorAt 14 at)
   -- 15: "EDF_DataBlocks does not match"
-  wrong-count : {r : Rules} {rows : List Row} → Passed s r rows (length s) → (CountIs (r .general) (length rows) → ⊥)
-      → FileError s (errorAt 15 0)
+  wrong-count : {r : Rules} {rows : List Row} {end : ℕ} → Passed s r rows end → Gap s (r .kind) end (length s)
+      → (CountIs (r .general) (length rows) → ⊥) → FileError s (errorAt 15 0)

@@ -2,13 +2,15 @@
 -- and no error code stands here.
 use mathlib.Core.Path.{_≡_}
 use mathlib.Core.Logic.{_≢_, _⊎_}
+use mathlib.Core.Bool.{true}
 use mathlib.Core.List.{List, [], _∷_, map, List·Memᴰ}
 use mathlib.Core.Option.{Option, none, some}
-use Prim.Native.Nat.{ℕ, suc, _+_, _*_, _≤_}
+use Prim.Native.Nat.{ℕ, suc, _+_, _*_, _≤_, _<_}
 use lib.IntN.{pos}
 use lib.ListN.{length}
-use Rattle.scan.specs.Byte.{ascii}
+use Rattle.scan.specs.Byte.{byte, ascii}
 use Rattle.scan.specs.Chain.{Chain}
+use Rattle.text.specs.Whitespace.{whitespace}
 use Rattle.header.specs.Entry.{Entry, bodyOf}
 use Rattle.header.specs.Grammar.{IsHeader, Parse, SayAll}
 use Rattle.header.specs.declared.Header.{Header}
@@ -39,9 +41,10 @@ pub record GeneralHeader (es : List Entry) (r : Rules) : Type 0 where
   pub boundary : NumberOr (CountsAs es (ascii "edf_blockboundary")) 512 1 (r .boundary)
   pub general : r .general ≡ some count
 
--- The rules of a file with no general header.
+-- The rules of a file with no general header. In kind 1 a header's "length need be no multiple of anything": each is a multiple of 1.
 abbrev pub plainRules : Kind → Rules
-plainRules kind = record { kind = kind; boundary = 512; general = none }
+plainRules kind-1 = record { kind = kind-1; boundary = 1; general = none }
+plainRules kind-2 = record { kind = kind-2; boundary = 512; general = none }
 
 -- A first header with the entries `es` gives the file the rules `r`. "A file is of kind 2 exactly if its first header has a statement
 -- and its key starts with `edf_`; else of kind 1." "Kind 2, first header: its first key is EDF_DataFormatVersion (..) or
@@ -92,24 +95,48 @@ pub record HasHeader (s : List ℕ) (start : ℕ) (h : Header) (ts : List Statem
   pub parse : Parse s h ts
   pub says : SayAll (bodyOf s h) ts es
 
+-- In kind 1 "a header starts at its brace"; "a kind 2 file keeps its start patterns".
+abbrev pub StartsAtBrace : Kind → ℕ → Header → Type 0
+StartsAtBrace kind start h = kind ≡ kind-1 → h .left ≡ start
+
+-- The bytes from one offset up to, not including, another are in no block of a file of a kind. "in kind 1, white may stand before the
+-- first header, between blocks and after the last, in no row"; in kind 2 there are no such bytes.
+pub record Gap (s : List ℕ) (kind : Kind) (from to : ℕ) : Type 0 where
+  pub order : from ≤ to
+  pub only-whitespace : (k : ℕ) → from ≤ k → k < to → whitespace (byte s k) ≡ true
+  pub end-to-end : kind ≡ kind-2 → from ≡ to
+
 -- "A block is a header, then an extent": a block with the row stands from `at` up to `next`.
 pub record IsBlock (s : List ℕ) (r : Rules) (at : ℕ) (row : Row) (next : ℕ) : Type 0 where
   pub header : Header
   pub statements : List Statement
   pub entries : List Entry
   pub stands : HasHeader s at header statements entries
+  pub brace : StartsAtBrace (r .kind) at header
   pub starts : row .start ≡ at
   pub length-is : row .header ≡ header .length
   pub rules : KeepsRules r at entries row
   pub ends : next ≡ at + row .header + row .size
   pub inside : next ≤ length s
 
--- The first header of the file gives it the rules `r`.
-pub record FirstHeader (s : List ℕ) (r : Rules) : Type 0 where
+-- A block with the row, behind bytes from `at` on that are in none.
+pub record SpacedBlock (s : List ℕ) (r : Rules) (at : ℕ) (row : Row) (next : ℕ) : Type 0 where
+  pub gap : Gap s (r .kind) at (row .start)
+  pub block : IsBlock s r (row .start) row next
+
+-- The first header of a file of a kind says `es`.
+pub record HeadsFile (s : List ℕ) (kind : Kind) (es : List Entry) : Type 0 where
+  pub start : ℕ
   pub header : Header
   pub statements : List Statement
+  pub gap : Gap s kind 0 start
+  pub stands : HasHeader s start header statements es
+  pub brace : StartsAtBrace kind start header
+
+-- The first header gives the file the rules `r`: "Kind is still judged by the first header".
+pub record FirstHeader (s : List ℕ) (r : Rules) : Type 0 where
   pub entries : List Entry
-  pub stands : HasHeader s 0 header statements entries
+  pub heads : HeadsFile s (r .kind) entries
   pub declares : Declares entries r
 
 -- Two data blocks with the same identity.
@@ -130,12 +157,12 @@ abbrev pub CountIs : Option ℕ → ℕ → Type 0
 CountIs none count = Unit {0}
 CountIs (some asked) count = count ≡ suc asked
 
--- A partition of a file into blocks (01: a cut), each given by its row: "A file is 1 to 256 blocks, end to end, using every
--- byte", "that keeps every rule of this section, judged by the file's bytes alone".
+-- A partition of a file into blocks (01: a cut), each given by its row: "A file is 1 to 256 blocks", "that keeps every rule of this
+-- section, judged by the file's bytes alone"; "in a cut the blocks and such white together use up every byte".
 pub record Partition (s : List ℕ) (rows : List Row) : Type 0 where
   pub rules : Rules
   pub first-header : FirstHeader s rules
-  pub blocks : Chain (IsBlock s rules) (λ at. at ≡ length s) 0 rows
+  pub blocks : Chain (SpacedBlock s rules) (λ at. Gap s (rules .kind) at (length s)) 0 rows
   pub not-empty : 1 ≤ length rows
   pub few : length rows ≤ 256
   pub identities : rules .kind ≡ kind-2 → DistinctIdentities rows

@@ -1,22 +1,24 @@
 -- One block, as a function, with errors 9 to 12: by what its header says, its header's length, the file's length and the
--- file's rules.
+-- file's rules. And whether a first header makes a file one of kind 2.
 use mathlib.Core.Bool.{Bool, true, false, cond, not, _&&_}
 use mathlib.Core.List.{List}
 use mathlib.Core.Option.{Option, none, some, Option·map}
-use Prim.Native.Nat.{ℕ, _+_, _%_}
+use Prim.Native.Nat.{ℕ, suc, _+_, _%_}
 use lib.Dec.{eqb, leb}
 use lib.IntN.{ℤ, pos, negsuc}
 use lib.ListN.{length}
 use Rattle.scan.specs.Byte.{same}
-use Rattle.scan.specs.Outcome.{isSome, isNone, Outcome, ok, require, present, _>>=_, _>>_}
+use Rattle.scan.specs.Outcome.{isSome, isNone, Outcome, ok, failed, require, present, _>>=_, _>>_}
 use Rattle.text.specs.Number.{wholeNumber}
 use Rattle.header.specs.Entries.{entries, valueIn}
 use Rattle.header.specs.Entry.{Entry, bodyOf}
 use Rattle.header.specs.Frame.{headerAt}
-use Rattle.header.specs.Statements.{statementsOf}
+use Rattle.header.specs.Statements.{statementsFrom, statementsOf}
+use Rattle.header.specs.declared.Header.{Header}
+use Rattle.header.specs.declared.Statement.{Statement}
 use Rattle.blocks.specs.Counting.{first, second, isEdfKey, counting, countingIn, sizeValue}
 use Rattle.blocks.specs.Keys.{VersionKey, DataBlocksKey, BlockIDKey, BoundaryKey, HeaderSizeKey, FileNameKey}
-use Rattle.blocks.specs.Limits.{defaultBoundary}
+use Rattle.blocks.specs.Limits.{defaultBoundary, plainBoundary}
 use Rattle.blocks.specs.Reading.{numberOr, isVersion, askedFor, identityOf}
 use Rattle.blocks.specs.declared.Accepted.{Accepted}
 use Rattle.blocks.specs.declared.FileRules.{FileRules}
@@ -47,7 +49,7 @@ rulesOf es =
     cond (isEdfKey (first es .key))
     (cond (same (first es .key) VersionKey) (generalRules es)
     (cond (same (first es .key) BlockIDKey) (some (rulesWith 2 defaultBoundary 0)) none))
-    (some (rulesWith 1 defaultBoundary 0))
+    (some (rulesWith 1 plainBoundary 0))
 
 -- ---- What a header says of its block
 
@@ -122,3 +124,18 @@ blockAt s given isFirst start = do
   ts ← statementsOf s start h
   r ← present (rulesFor given isFirst (entries (bodyOf s h) ts)) 9 start
   judged r isFirst (length s) start (h .length) (entries (bodyOf s h) ts)
+
+-- ---- The kind, before the block is judged
+
+-- By the statements of a header: it "has passed check 6" if they are well formed, and then its first key decides.
+abbrev pub edfFirst : List ℕ → Option (List Statement) → Bool
+edfFirst body none = false
+edfFirst body (some ts) = isEdfKey (first (entries body ts) .key)
+
+abbrev pub edfHeader : List ℕ → Outcome Header → Bool
+edfHeader s (ok h) = edfFirst (bodyOf s h) (statementsFrom (bodyOf s h) (suc (h .left)))
+edfHeader s (failed e) = false
+
+-- The header at an offset, as the first of a file, "proves kind 2".
+unfoldable pub provesKind2 : List ℕ → ℕ → Bool
+provesKind2 s at = edfHeader s (headerAt s at)

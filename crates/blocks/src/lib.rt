@@ -1,4 +1,4 @@
-// A file as blocks end to end.
+// A file as blocks.
 use scan::Error;
 
 // The bytes of the largest file that is opened.
@@ -7,8 +7,11 @@ pub const FILE_LIMIT: usize = 1073741824;
 // The most blocks of a file, and the rows of its table.
 pub const BLOCK_LIMIT: usize = 256;
 
-// The boundary of headers where no general header gives another.
+// The boundary of headers in kind 2 where no general header gives another.
 pub const DEFAULT_BOUNDARY: usize = 512;
+
+// The boundary of headers in kind 1, where any length is allowed.
+pub const PLAIN_BOUNDARY: usize = 1;
 
 // A block, as a row of the table that opening fills: its start, the length of its header, the size of its data, and its kind, 0 for
 // a general block and 1 for a data block; then its identity, with instance 1 for Psd and 2 for Error. The last three are 0
