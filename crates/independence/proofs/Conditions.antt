@@ -2,7 +2,7 @@
 use mathlib.Core.Path.{_≡_, refl, sym, ap, _∙_}
 use mathlib.Core.List.{List, [], _∷_, _++_, map, List·Memᴰ·head}
 use mathlib.Core.Option.{none, some}
-use Prim.Native.Nat.{ℕ, zero, suc, _+_, _≤_}
+use Prim.Native.Nat.{ℕ, _+_, _≤_}
 use native.Mathlib.Omega.{arith}
 use lib.IntN.{pos}
 use lib.ListN.{length, drop, getElem?}
@@ -11,30 +11,30 @@ use Rattle.scan.specs.Byte.{ascii, same}
 use Rattle.scan.specs.Outcome.{Outcome, ok, refused}
 use Rattle.scan.specs.Search.{firstWith, firstFrom}
 use Rattle.scan.proofs.Cases.{ok-failed}
-use Rattle.scan.proofs.Chains.{chain-length}
+use Rattle.scan.proofs.Chains.{chain-end, chain-length}
 use Rattle.text.specs.Fold.{foldTable, fold}
 use Rattle.text.specs.Key.{strip, keyOf}
 use Rattle.text.specs.Number.{digit, digitsFrom, natural, wholeNumber}
 use Rattle.text.specs.Value.{leading, trimmedEnd, trimmed, withoutOpeningQuote, withoutClosingQuote, valueSpan, valueOf}
-use Rattle.text.specs.Whitespace.{whitespace, visible}
+use Rattle.text.specs.Whitespace.{whitespace, visible, visibleFrom}
 use Rattle.header.specs.Entries.{trimmedLength, value, span, entries, lookup}
 use Rattle.header.specs.Entry.{key}
 use Rattle.header.specs.Frame.{openingAt, closingAt, endsBody, frameAt, headerAt}
 use Rattle.header.specs.Statements.{statementAt, statementsWithin, statementsFrom, isShort, among, areDistinct, statementsOf}
 use Rattle.blocks.specs.Counting.{isEdfKey, counting, countingIn, sizeValue}
-use Rattle.blocks.specs.Grammar.{IsBlock, Partition}
-use Rattle.blocks.specs.Judging.{generalRules, rulesOf, roleOf, isWholeOrAbsent, isLengthOrAbsent, lengthAllowed, judged, blockAt}
+use Rattle.blocks.specs.Grammar.{Gap, SpacedBlock, Partition}
+use Rattle.blocks.specs.Judging.{generalRules, rulesOf, roleOf, isWholeOrAbsent, isLengthOrAbsent, lengthAllowed, judged, blockAt, provesKind2}
 use Rattle.blocks.specs.Limits.{fileLimit, blockLimit}
-use Rattle.blocks.specs.Opening.{sameNumber, sameIdentity, identityAmong, repeats, countMatches, openedFrom, opened, openedFile}
+use Rattle.blocks.specs.Opening.{sameNumber, sameIdentity, identityAmong, repeats, countMatches, firstStart, nextStart, startAfter, openedFrom, opened, openedFile}
 use Rattle.blocks.specs.Places.{kind-1}
 use Rattle.blocks.specs.Reading.{numberOr, isVersion, askedFor, afterPrefix, memoryOf, identityOf}
 use Rattle.blocks.specs.declared.Row.{Row}
-use Rattle.blocks.proofs.BlockLaws.{block-inside}
+use Rattle.blocks.proofs.BlockPlaces.{spaced-inside}
 use Rattle.blocks.proofs.Complete.{opened-complete}
 use Rattle.blocks.proofs.Sound.{opened-sound}
 use Rattle.blocks.proofs.Unambiguous.{partition-unique}
 use Rattle.locality.specs.Blocks.{AcceptedFile, blockBytes, generalHeader, OfKind, Joinable, joinedRows, AloneBlock}
-use Rattle.locality.specs.Moved.{startingAt, movedRow}
+use Rattle.locality.specs.Moved.{movedRow}
 use Rattle.locality.proofs.Joined.{files-joined}
 use Rattle.locality.proofs.KindLaws.{kind-by-row}
 use Rattle.keyword.specs.Keyword.{entriesAt, generalEntries, viewOf, lookupIn, entryOf, valueFound}
@@ -52,23 +52,19 @@ block = record { start = 71; header = 31; size = 0; kind = 1; sequence = pos 1; 
 abbrev rows : List Row
 rows = record { start = 0; header = 71; size = 0; kind = 0; sequence = pos 0; instance = 0; memory = pos 0 } ∷ block ∷ []
 
--- A file of kind 1: one header, of 512 bytes, that says nothing.
-unfoldable pub spaces : ℕ → List ℕ
-spaces zero = []
-spaces (suc n) = 32 ∷ spaces n
-
+-- A file of kind 1: one header, that says nothing, with whitespace before and after it.
 unfoldable pub blank : List ℕ
-blank = 123 ∷ (spaces 509 ++ (125 ∷ 10 ∷ []))
+blank = ascii " {}\n "
 
 abbrev pub blankRow : Row
-blankRow = record { start = 0; header = 512; size = 0; kind = 1; sequence = pos 0; instance = 0; memory = pos 0 }
+blankRow = record { start = 1; header = 3; size = 0; kind = 1; sequence = pos 0; instance = 0; memory = pos 0 }
 
 -- And one that starts with an EDF_ key. Behind the other it is a block of kind 1.
 unfoldable named : List ℕ
-named = ascii "{EDF_DataBlockID=x;" ++ (spaces 491 ++ (125 ∷ 10 ∷ []))
+named = ascii "{EDF_DataBlockID=x;}\n"
 
 abbrev namedRow : Row
-namedRow = startingAt 512 blankRow
+namedRow = record { start = 5; header = 21; size = 0; kind = 1; sequence = pos 0; instance = 0; memory = pos 0 }
 
 -- ---- What is computed
 
@@ -85,14 +81,14 @@ record Facts : Type 0 where
   small : length (fileWith 49) ≡ 102
   other-small : length (fileWith 50) ≡ 102
   blank-opens : opened blank ≡ ok (blankRow ∷ [])
-  blank-small : length blank ≡ 512
+  blank-small : length blank ≡ 5
   -- Alone it is a first header of kind 2, with a malformed identity.
   named-opens : opened (blank ++ named) ≡ ok (blankRow ∷ namedRow ∷ [])
-  named-small : length (blank ++ named) ≡ 1024
+  named-small : length (blank ++ named) ≡ 26
   named-alone : opened (blockBytes (blank ++ named) namedRow) ≡ refused 9 0
 
 facts : Facts
-unfolding fileWith blank spaces named firstWith firstFrom foldTable fold strip keyOf digit digitsFrom natural wholeNumber leading trimmedEnd trimmed withoutOpeningQuote withoutClosingQuote valueSpan valueOf whitespace visible trimmedLength value span entries lookup key openingAt closingAt endsBody frameAt headerAt statementAt statementsWithin statementsFrom isShort among areDistinct statementsOf isEdfKey counting countingIn sizeValue generalRules rulesOf roleOf isWholeOrAbsent isLengthOrAbsent lengthAllowed judged blockAt sameNumber sameIdentity identityAmong repeats countMatches openedFrom opened openedFile numberOr isVersion askedFor afterPrefix memoryOf identityOf same entriesAt generalEntries viewOf lookupIn entryOf valueFound
+unfolding fileWith blank named firstWith firstFrom foldTable fold strip keyOf digit digitsFrom natural wholeNumber leading trimmedEnd trimmed withoutOpeningQuote withoutClosingQuote valueSpan valueOf whitespace visible visibleFrom trimmedLength value span entries lookup key openingAt closingAt endsBody frameAt headerAt statementAt statementsWithin statementsFrom isShort among areDistinct statementsOf isEdfKey counting countingIn sizeValue generalRules rulesOf roleOf isWholeOrAbsent isLengthOrAbsent lengthAllowed judged blockAt provesKind2 sameNumber sameIdentity identityAmong repeats countMatches firstStart nextStart startAfter openedFrom opened openedFile numberOr isVersion askedFor afterPrefix memoryOf identityOf same entriesAt generalEntries viewOf lookupIn entryOf valueFound
 facts = record {
   opens = refl;
   other-opens = refl;
@@ -163,7 +159,9 @@ starts-moved s t {us} {vs} j c = go vs (j .second .partition .not-empty) same
     p = j .first .partition
 
     long : 0 + length us ≤ length s
-    long = chain-length (IsBlock s (p .rules)) (λ k x m b. block-inside b .0) (length s) 0 us (p .blocks)
+    long =
+        let c = chain-end (SpacedBlock s (p .rules)) (λ at. Gap s (p .rules .kind) at (length s)) 0 us (p .blocks) in
+        omega (arith, chain-length (SpacedBlock s (p .rules)) (λ k x m b. spaced-inside b .0) (c .0) 0 us (c .2), c .1 .order)
 
     same : map (movedRow (length s)) vs ≡ vs
     same =

@@ -17,7 +17,7 @@ use Rattle.header.proofs.FrameLaws.{header-sound, header-complete, header-insid
 use Rattle.header.proofs.SayLaws.{entries-say}
 use Rattle.header.proofs.StatementLaws.{statements-sound, statements-complete}
 use Rattle.blocks.specs.Grammar.{HasHeader}
-use Rattle.blocks.proofs.BlockLaws.{said-once}
+use Rattle.blocks.proofs.Said.{said-once}
 use Rattle.blocks.proofs.Prefix.{has-local}
 use Rattle.locality.specs.Blocks.{HeaderAlone}
 use Rattle.locality.specs.Moved.{movedOutcome, movedHeader, movedStatement}

@@ -1,5 +1,5 @@
 -- Chains that are moved, contiguous chains, and where the things in a chain stand.
-use mathlib.Core.Path.{_≡_, ap}
+use mathlib.Core.Path.{_≡_}
 use mathlib.Core.Logic.{⊎-elim}
 use mathlib.Core.List.{List, [], _∷_, _++_, map, List·Memᴰ, List·Memᴰ·not-nil, List·Memᴰ·cases-cons}
 use Prim.Native.Nat.{ℕ, _+_, _≤_, _<_}
@@ -7,10 +7,10 @@ use native.Mathlib.Omega.{arith}
 use Rattle.scan.specs.Chain.{Chain}
 
 -- Links that hold where they are moved by n make a chain there.
-module _ {A : Type 0} (Link Other : ℕ → A → ℕ → Type 0) (move : A → A) (n end : ℕ)
-    (holds : (at : ℕ) (x : A) (next : ℕ) → Link at x next → Other (n + at) (move x) (n + next)) where
-  pub chain-moved : (from : ℕ) (xs : List A) → Chain Link (λ at. at ≡ end) from xs → Chain Other (λ at. at ≡ n + end) (n + from) (map move xs)
-  chain-moved from [] c = ap (λ (k : ℕ). n + k) c
+module _ {A : Type 0} (Link Other : ℕ → A → ℕ → Type 0) (Stop Halt : ℕ → Type 0) (move : A → A) (n : ℕ)
+    (holds : (at : ℕ) (x : A) (next : ℕ) → Link at x next → Other (n + at) (move x) (n + next)) (stops : (at : ℕ) → Stop at → Halt (n + at)) where
+  pub chain-moved : (from : ℕ) (xs : List A) → Chain Link Stop from xs → Chain Other Halt (n + from) (map move xs)
+  chain-moved from [] c = stops from c
   chain-moved from (x ∷ xs) c = (n + c .0, holds from x (c .0) (c .1), chain-moved (c .0) xs (c .2))
 
 -- A chain up to an offset, and one from there on.

@@ -12,7 +12,7 @@ use Rattle.header.proofs.FrameLaws.{header-sound, header-complete}
 use Rattle.header.proofs.SayLaws.{entries-say}
 use Rattle.header.proofs.StatementLaws.{statements-sound, statements-complete}
 use Rattle.blocks.specs.Grammar.{HasHeader}
-use Rattle.blocks.proofs.BlockLaws.{said-once}
+use Rattle.blocks.proofs.Said.{said-once}
 use Rattle.locality.specs.Moved.{movedOutcome, movedHeader, movedStatement, movedEntry}
 use Rattle.locality.proofs.EntryShift.{entries-shift}
 use Rattle.locality.proofs.FrameShift.{header-shift}

@@ -9,40 +9,30 @@ use lib.ListN.{length}
 use Rattle.scan.specs.Chain.{Chain}
 use Rattle.scan.proofs.Cases.{by-option, none-some}
 use Rattle.header.specs.Entry.{Entry}
-use Rattle.blocks.specs.Grammar.{Rules, plainRules, Declares, plain, data-first, general-first, HasRole, plain-block, general-block, data-block, IsBlock, FirstHeader, Partition}
-use Rattle.blocks.specs.Places.{kind-1, kind-2, HasKey, IsEdfKey, StartsWithEdfKey}
+use Rattle.blocks.specs.Grammar.{Rules, plainRules, Declares, plain, data-first, general-first, HasRole, plain-block, general-block, data-block, Gap, SpacedBlock, FirstHeader, Partition}
+use Rattle.blocks.specs.Places.{kind-1, kind-2, StartsWithEdfKey}
 use Rattle.blocks.specs.declared.Row.{Row}
-use Rattle.blocks.proofs.BlockLaws.{said-same}
-use Rattle.blocks.proofs.Coded.{kindNumber}
+use Rattle.blocks.proofs.Coded.{kinds-differ}
+use Rattle.blocks.proofs.Declarations.{edf-declares, plain-declares}
+use Rattle.blocks.proofs.FirstLaws.{heads-same}
 use Rattle.blocks.proofs.IdentityLaws.{identity-named}
 use Rattle.blocks.proofs.Unambiguous.{block-of}
 use Rattle.locality.specs.Blocks.{generalHeader, KindIs, without-edf-key, with-edf-key, OfKind}
 
-pub kinds-differ : kind-1 ≡ kind-2 → ⊥
-kinds-differ e = omega (arith, ap kindNumber e)
-
 -- ---- The first header
 
--- A key that the rules name for a first header is an EDF_ key.
-starts-edf : {es : List Entry} {key value : List ℕ} → IsEdfKey key → HasKey es 0 key value → StartsWithEdfKey es
-starts-edf i h = record { entry = h .entry; at = h .at; edf = rw (h .key-is) i }
-
-declared-plain : {es : List Entry} {r : Rules} → KindIs es kind-1 → Declares es r → r ≡ plainRules kind-1
-declared-plain (without-edf-key n) (plain m e) = e
-declared-plain (without-edf-key n) (data-first h e) = absurd (n (starts-edf (record { rest = _; is = refl }) h))
-declared-plain (without-edf-key n) (general-first g) = absurd (n (starts-edf (record { rest = _; is = refl }) (g .version-key)))
-
--- A file of kind 1 has no general header, and a boundary of 512.
+-- A file of kind 1 has no general header, and headers of any length.
 pub plain-rules : {s : List ℕ} {r : Rules} → OfKind kind-1 s → FirstHeader s r → r ≡ plainRules kind-1
-plain-rules k f = declared-plain (k .is) (rw (said-same (f .stands) (k .stands)) at (f .declares))
-
-declared-kind-2 : {es : List Entry} {r : Rules} → KindIs es kind-2 → Declares es r → r .kind ≡ kind-2
-declared-kind-2 (with-edf-key h) (plain n e) = absurd (n h)
-declared-kind-2 (with-edf-key h) (data-first d e) = ap (λ (r : Rules). r .kind) e
-declared-kind-2 (with-edf-key h) (general-first g) = g .kind
+plain-rules {r = r} k f = go (k .is)
+  where
+    go : KindIs (k .entries) kind-1 → r ≡ plainRules kind-1
+    go (without-edf-key n) = plain-declares (rw (heads-same (f .heads) (k .heads)) at (f .declares)) n
 
 pub kind-2-rules : {s : List ℕ} {r : Rules} → OfKind kind-2 s → FirstHeader s r → r .kind ≡ kind-2
-kind-2-rules k f = declared-kind-2 (k .is) (rw (said-same (f .stands) (k .stands)) at (f .declares))
+kind-2-rules {r = r} k f = go (k .is)
+  where
+    go : KindIs (k .entries) kind-2 → r .kind ≡ kind-2
+    go (with-edf-key h) = edf-declares (f .declares) (rw (heads-same (k .heads) (f .heads)) at h)
 
 -- ---- The rows
 
@@ -60,6 +50,12 @@ general-kind g (general-first h) (plain-block q b i) = absurd (kinds-differ (sym
 general-kind g (general-first h) (general-block q x z b i) = b
 general-kind g (general-first h) (data-block q x b f i) = ⊎-elim (λ n. absurd (none-some (sym n ∙ g))) (λ n. absurd (n refl)) x
 
+-- Such a file is of kind 2.
+asking-two : {r : Rules} {ds : List Entry} {count : ℕ} → r .general ≡ some count → Declares ds r → r .kind ≡ kind-2
+asking-two g (plain n e) = absurd (none-some (ap (λ (r : Rules). r .general) (sym e) ∙ g))
+asking-two g (data-first h e) = ap (λ (r : Rules). r .kind) e
+asking-two g (general-first h) = h .kind
+
 module _ {s : List ℕ} {rows : List Row} (c : Partition s rows) where
   pub row-kind : c .rules .general ≡ none → {row : Row} → List·Memᴰ row rows → row .kind ≡ 1
   row-kind g m = data-kind g (block-of c m .2 .rules .role)
@@ -68,10 +64,13 @@ module _ {s : List ℕ} {rows : List Row} (c : Partition s rows) where
   pub rules-general : generalHeader s rows ≡ none → c .rules .general ≡ none
   rules-general e = by-option (c .rules .general) (λ g. g) (λ count g. absurd (go rows (c .blocks) (c .not-empty) e g))
     where
-      go : (xs : List Row) → Chain (IsBlock s (c .rules)) (λ at. at ≡ length s) 0 xs → 1 ≤ length xs → generalHeader s xs ≡ none → {count : ℕ}
-          → c .rules .general ≡ some count → ⊥
+      go : (xs : List Row) → Chain (SpacedBlock s (c .rules)) (λ at. Gap s (c .rules .kind) at (length s)) 0 xs → 1 ≤ length xs
+          → generalHeader s xs ≡ none → {count : ℕ} → c .rules .general ≡ some count → ⊥
       go [] b l q g = omega arith
-      go (x ∷ xs) b l q g = none-some (sym (rw (general-kind g (c .first-header .declares) (b .1 .rules .role)) at q))
+      go (x ∷ xs) b l q g =
+          let d = c .first-header .declares in
+          let z : 0 ≡ x .start = b .1 .gap .end-to-end (asking-two g d) in
+          none-some (sym (rw (general-kind g d (rw (sym z) at (b .1 .block .rules .role))) at q))
 
   pub rows-general : c .rules .general ≡ none → generalHeader s rows ≡ none
   rows-general g = go rows (λ x m. row-kind g m)
@@ -101,13 +100,8 @@ pub kind-by-row : {s : List ℕ} {rows : List Row} → Partition s rows → {row
     → OfKind kind-1 s
 kind-by-row c m k z =
     let f = c .first-header in
-    record {
-      header = f .header;
-      statements = f .statements;
-      entries = f .entries;
-      stands = f .stands;
-      is = declared-kind-1 (plain-row k z (block-of c m .2 .rules .role)) (f .declares);
-    }
+    let one = plain-row k z (block-of c m .2 .rules .role) in
+    record { entries = f .entries; heads = rw one at (f .heads); is = declared-kind-1 one (f .declares) }
 
 -- ---- A block as a file of its own
 

@@ -10,7 +10,7 @@ use Rattle.scan.specs.Byte.{bytesAt}
 use Rattle.header.specs.Entry.{Entry}
 use Rattle.header.specs.declared.Header.{Header}
 use Rattle.header.specs.declared.Statement.{Statement}
-use Rattle.blocks.specs.Grammar.{HasHeader, Partition}
+use Rattle.blocks.specs.Grammar.{HasHeader, HeadsFile, Partition}
 use Rattle.blocks.specs.Limits.{fileLimit, blockLimit}
 use Rattle.blocks.specs.Places.{Kind, kind-1, kind-2, StartsWithEdfKey}
 use Rattle.blocks.specs.declared.Row.{Row}
@@ -38,10 +38,8 @@ pub data KindIs (es : List Entry) : Kind → Type 0 where
   with-edf-key : StartsWithEdfKey es → KindIs es kind-2
 
 pub record OfKind (kind : Kind) (s : List ℕ) : Type 0 where
-  pub header : Header
-  pub statements : List Statement
   pub entries : List Entry
-  pub stands : HasHeader s 0 header statements entries
+  pub heads : HeadsFile s kind entries
   pub is : KindIs entries kind
 
 -- "two accepted files of kind 1 laid end to end, within the limits".
