@@ -14,7 +14,7 @@ use Rattle.header.specs.Entry.{Entry}
 use Rattle.blocks.specs.Judging.{rulesWith, generalBy, generalRules, rulesOf, unnamed, roleOf}
 use Rattle.blocks.specs.Counting.{first, isEdfKey, counting}
 use Rattle.blocks.specs.Keys.{VersionKey, DataBlocksKey, BlockIDKey, BoundaryKey}
-use Rattle.blocks.specs.Limits.{defaultBoundary}
+use Rattle.blocks.specs.Limits.{defaultBoundary, plainBoundary}
 use Rattle.blocks.specs.Reading.{isVersion, askedFor, numberOr, identityOf}
 use Rattle.blocks.specs.declared.FileRules.{FileRules}
 use Rattle.blocks.specs.declared.Identity.{Identity}
@@ -46,7 +46,7 @@ module _ {es : List Entry} (e : es ≡ []) where
   unfolding namedRole same
   named-empty = rw e
 
-  pub rules-empty : {x : Option FileRules} → x ≡ some (rulesWith 1 defaultBoundary 0) → x ≡ rulesOf es
+  pub rules-empty : {x : Option FileRules} → x ≡ some (rulesWith 1 plainBoundary 0) → x ≡ rulesOf es
   unfolding rulesOf isEdfKey same
   rules-empty q = rw e q
 
@@ -82,7 +82,7 @@ module _ {es : List Entry} {f : Entry} {rest : List Entry} (e : es ≡ f ∷ res
       general-good c b = rw (e, general-is f rest, versioned q, sym c, sym (rw e at b))
 
   -- The rules of the file.
-  pub rules-plain : isEdfKey (f .key) ≡ false → {x : Option FileRules} → x ≡ some (rulesWith 1 defaultBoundary 0) → x ≡ rulesOf es
+  pub rules-plain : isEdfKey (f .key) ≡ false → {x : Option FileRules} → x ≡ some (rulesWith 1 plainBoundary 0) → x ≡ rulesOf es
   unfolding rulesOf
   rules-plain k q = rw (e, k) q
 

@@ -2,6 +2,7 @@
 // body.
 use blocks::DEFAULT_BOUNDARY;
 use blocks::FileRules;
+use blocks::PLAIN_BOUNDARY;
 use header::Next;
 use header::Statement;
 use header::lookup::value_bytes;
@@ -17,7 +18,6 @@ ghost use mathlib.Core.Option.{some};
 ghost use Rattle.header.specs.Statements.{statementAt};
 ghost use Rattle.header.specs.declared.Next.the-variants.{One};
 ghost use Rattle.blocks.specs.Judging.{rulesWith, generalRules, rulesOf};
-ghost use Rattle.blocks.specs.Limits.{defaultBoundary};
 ghost use Rattle.reading.specs.Answers.{countOption};
 ghost use Rattle.judging.specs.Answers.{ruledOption};
 ghost use Rattle.reading.specs.Entries.{entriesFrom};
@@ -70,12 +70,13 @@ fn general_rules(s: &[u8], from: usize, t: Statement) -> Ruled
     })
 }
 
-fn plain_rules(kind: u8) -> Ruled
-    ensures { λ r. ⌜ ruledOption r ≡ some (rulesWith kind defaultBoundary 0) ⌝ }
+// The rules of a file without a general header.
+fn plain_rules(kind: u8, boundary: usize) -> Ruled
+    ensures { λ r. ⌜ ruledOption r ≡ some (rulesWith kind boundary 0) ⌝ }
 {
     Ruled::By(FileRules {
         kind: kind,
-        boundary: DEFAULT_BOUNDARY,
+        boundary: boundary,
         expected: 0,
     })
 }
@@ -85,19 +86,19 @@ pub fn rules_of(s: &[u8], from: usize) -> Ruled
     ensures { λ r. ⌜ ruledOption r ≡ rulesOf (entriesFrom (now (s .entry)) from) ⌝ }
 {
     match statement_at(s, from) {
-        Next::End => plain_rules(1),
-        Next::Malformed => plain_rules(1),
+        Next::End => plain_rules(1, PLAIN_BOUNDARY),
+        Next::Malformed => plain_rules(1, PLAIN_BOUNDARY),
         Next::One(t) => {
             let a = t.first;
             let e = t.equals;
             if !is_edf_key(&s[a..e]) {
-                return plain_rules(1);
+                return plain_rules(1, PLAIN_BOUNDARY);
             }
             if same_key(&s[a..e], b"edf_dataformatversion") {
                 return general_rules(s, from, t);
             }
             if same_key(&s[a..e], b"edf_datablockid") {
-                return plain_rules(2);
+                return plain_rules(2, DEFAULT_BOUNDARY);
             }
             Ruled::Broken
         }

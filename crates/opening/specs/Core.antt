@@ -9,7 +9,7 @@ use Rattle.scan.specs.Outcome.{Outcome, ok, failed, errorAt}
 use Rattle.scan.specs.declared.Error.{Error}
 use Rattle.blocks.specs.Judging.{blockAt}
 use Rattle.blocks.specs.Limits.{blockLimit}
-use Rattle.blocks.specs.Opening.{ended, countMatches, opened}
+use Rattle.blocks.specs.Opening.{startAfter, ended, countMatches, opened}
 use Rattle.blocks.specs.declared.Accepted.{Accepted}
 use Rattle.blocks.specs.declared.FileRules.{FileRules}
 use Rattle.blocks.specs.declared.Opened.{Opened}
@@ -27,11 +27,12 @@ stepBy (failed e) = End (answer.Failed e)
 abbrev pub answerAtEnd : ℕ → ℕ → Opened
 answerAtEnd expected count = cond (countMatches expected count) (answer.Blocks count) (answer.Failed (errorAt 15 0))
 
--- What comes at an offset after `count` blocks, but for error 13.
+-- What comes after `count` blocks, of which the last ends at `end`, but for error 13.
 unfoldable pub stepOf : List ℕ → ℕ → ℕ → FileRules → Step
-stepOf s count at r =
-    cond (ended count at (length s)) (End (answerAtEnd (r .expected) count))
-    (cond (eqb count blockLimit) (End (answer.Failed (errorAt 14 at))) (stepBy (blockAt s r (eqb count 0) at)))
+stepOf s count end r =
+    let start = startAfter s count (r .kind) end in
+    cond (ended count start (length s)) (End (answerAtEnd (r .expected) count))
+    (cond (eqb count blockLimit) (End (answer.Failed (errorAt 14 start))) (stepBy (blockAt s r (eqb count 0) start)))
 
 -- How many of the rows before are searched for the identity of a row.
 abbrev pub searchedFor : Row → ℕ → ℕ

@@ -9,26 +9,27 @@ use super::steps::failed;
 use super::steps::next_step;
 use super::steps::rows_in;
 use blocks::BLOCK_LIMIT;
-use blocks::DEFAULT_BOUNDARY;
 use blocks::FileRules;
+use blocks::PLAIN_BOUNDARY;
 ghost use Rattle.opening.specs.Core.{Opens};
 
 // The rules before the first header is read.
 const NO_RULES: FileRules = FileRules {
     kind: 1,
-    boundary: DEFAULT_BOUNDARY,
+    boundary: PLAIN_BOUNDARY,
     expected: 0,
 };
 
+// The answer and the rows of a file. `end` is where the block before ended, 0 before the first.
 pub fn opened(file: &[u8]) -> Opening
     ensures { λ r. ⌜ Opens (now (file .entry)) r ⌝ }
 {
     let mut rows = [BLANK; BLOCK_LIMIT];
     let mut count = 0;
-    let mut at = 0;
+    let mut end = 0;
     let mut rules = NO_RULES;
     loop {
-        match next_step(file, count, at, rules) {
+        match next_step(file, count, end, rules) {
             Step::End(answer) => {
                 let counted = rows_in(answer);
                 return Opening {
@@ -43,14 +44,14 @@ pub fn opened(file: &[u8]) -> Opening
                 let mut i = 0;
                 while i < n {
                     if same_identity(rows[i], row) {
-                        return failed(13, at);
+                        return failed(13, row.start);
                     }
                     i += 1;
                 }
                 let given = a.rules;
                 rows[count] = row;
                 count += 1;
-                at = a.next;
+                end = a.next;
                 rules = given;
             }
         }

@@ -1,10 +1,11 @@
-// What comes at an offset after so many blocks: the end of the file, one block too many, a block, or an error.
+// What comes after so many blocks: the end of the file, one block too many, a block, or an error.
 use super::BLANK;
 use super::Opening;
 use super::Step;
 use blocks::BLOCK_LIMIT;
 use blocks::FileRules;
 use blocks::Opened;
+use gaps::start::start_after;
 use judging::block::Judged;
 use judging::block::block_at;
 use scan::Error;
@@ -14,13 +15,14 @@ ghost use Rattle.blocks.specs.Opening.{ended, countMatches};
 ghost use Rattle.blocks.specs.declared.Opened.the-variants.{Failed};
 ghost use Rattle.opening.specs.Core.{answerAtEnd, rowsIn, stepOf, Refuses};
 
-fn at_end(count: usize, at: usize, end: usize) -> bool
-    ensures { λ r. ⌜ r ≡ ended count at end ⌝ }
+// Whether the file ends where the next block would start, at `start`; not before its first block.
+fn at_end(count: usize, start: usize, length: usize) -> bool
+    ensures { λ r. ⌜ r ≡ ended count start length ⌝ }
 {
     if count == 0 {
         return false;
     }
-    at == end
+    start == length
 }
 
 fn count_matches(expected: usize, count: usize) -> bool
@@ -75,16 +77,18 @@ fn answer_at_end(expected: usize, count: usize) -> Opened
     }
 }
 
-pub fn next_step(file: &[u8], count: usize, at: usize, rules: FileRules) -> Step
-    ensures { λ r. ⌜ r ≡ stepOf (now (file .entry)) count at rules ⌝ }
+// The step after `count` blocks, of which the last ends at `end`.
+pub fn next_step(file: &[u8], count: usize, end: usize, rules: FileRules) -> Step
+    ensures { λ r. ⌜ r ≡ stepOf (now (file .entry)) count end rules ⌝ }
 {
-    if at_end(count, at, file.len()) {
+    let start = start_after(file, count, rules.kind, end);
+    if at_end(count, start, file.len()) {
         return Step::End(answer_at_end(rules.expected, count));
     }
     if count == BLOCK_LIMIT {
-        return Step::End(refusal(14, at));
+        return Step::End(refusal(14, start));
     }
-    match block_at(file, rules, count == 0, at) {
+    match block_at(file, rules, count == 0, start) {
         Judged::Block(a) => Step::Block(a),
         Judged::Failed(e) => Step::End(Opened::Failed(e)),
     }

@@ -15,26 +15,26 @@ use Rattle.opening.proofs.run.opened.Tie as tie
 -- ---- The search for an identity
 
 abbrev Inv-loop2 : tie.InvT-loop2
-Inv-loop2 file rows count at a row n i₀ i =
+Inv-loop2 file rows count end a row n i₀ i =
     (n ≤ 256) × (n ≤ length rows) × (identityAmong row (take n rows) ≡ identityAmong row (drop i (take n rows)))
 
 abbrev μ-loop2 : tie.MeasureT-loop2
-μ-loop2 file rows count at a row n i₀ i = n - i
+μ-loop2 file rows count end a row n i₀ i = n - i
 
 -- ---- The blocks
 
 abbrev Inv-loop : tie.InvT-loop
-Inv-loop file rows₀ count₀ at₀ rules₀ rows count at rules = Stands file rows count at rules
+Inv-loop file rows₀ count₀ end₀ rules₀ rows count end rules = Stands file rows count end rules
 
 abbrev μ-loop : tie.MeasureT-loop
-μ-loop file rows₀ count₀ at₀ rules₀ rows count at rules = 257 - count
+μ-loop file rows₀ count₀ end₀ rules₀ rows count end rules = 257 - count
 
 loop-holds : tie.Need-loop-holds Inv-loop2 μ-loop2 Inv-loop μ-loop
 loop-holds c = starts _ (search needs)
 
 -- A turn that found a block, with fewer than 256 before it.
 found : (c : tie.After-given Inv-loop2 μ-loop2 Inv-loop μ-loop)
-    → stepOf (c .before .before .before .before .before .before .before .before .before .before .before .args .file .now) (c .before .before .before .before .before .before .before .before .before .loop .count) (c .before .before .before .before .before .before .before .before .before .loop .at) (c .before .before .before .before .before .before .before .before .before .loop .rules) ≡ Block (c .before .before .before .before .before .before .a .given .0 .0)
+    → stepOf (c .before .before .before .before .before .before .before .before .before .before .before .args .file .now) (c .before .before .before .before .before .before .before .before .before .loop .count) (c .before .before .before .before .before .before .before .before .before .loop .end) (c .before .before .before .before .before .before .before .before .before .loop .rules) ≡ Block (c .before .before .before .before .before .before .a .given .0 .0)
 found c = sym (c .before .before .before .before .before .before .before .before .next-step .ensures) ∙ c .before .before .before .before .before .before .a .given .1
 
 below : (c : tie.After-given Inv-loop2 μ-loop2 Inv-loop μ-loop) → c .before .before .before .before .before .before .before .before .before .loop .count < 256
