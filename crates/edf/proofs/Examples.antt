@@ -6,15 +6,15 @@ use lib.IntN.{pos, negsuc}
 use lib.Ieee.{binary64, ofBits, round, neg}
 use Rattle.scan.specs.Byte.{ascii, same}
 use Rattle.scan.specs.Outcome.{ok, refused}
-use Rattle.scan.specs.Search.{firstFrom}
+use Rattle.scan.specs.Search.{firstFrom, firstWith}
 use Rattle.text.specs.Escapes.{letter, letters, lookupByte, meaning, meanings}
 use Rattle.text.specs.Number.{digit, digitsFrom, natural, wholeNumber}
 use Rattle.text.specs.Text.{escapedBody, quotedText, textOf, unescapedAfter, withoutLineBreaks}
 use Rattle.text.specs.Value.{leading, trimmedEnd, trimmed, withoutOpeningQuote, withoutClosingQuote, valueSpan, valueOf}
-use Rattle.text.specs.Whitespace.{whitespace}
+use Rattle.text.specs.Whitespace.{whitespace, visibleFrom}
 use Rattle.header.specs.Frame.{openingAt, frameAt, headerAt}
-use Rattle.blocks.specs.Judging.{blockAt}
-use Rattle.blocks.specs.Opening.{openedFrom, opened}
+use Rattle.blocks.specs.Judging.{blockAt, provesKind2}
+use Rattle.blocks.specs.Opening.{firstStart, startAfter, openedFrom, opened}
 use Rattle.scaling.specs.Scale.{scaled}
 use Rattle.reals.specs.Measure.{measureNamed}
 use Rattle.reals.specs.Numerals.{withDigits, withoutSign, withSign, withExponent, numeralOf}
@@ -56,7 +56,7 @@ table =
     ∷ []
 
 pub examples-hold : Each table
-unfolding table fortyNine delivered deliveredElement storedElement elementBytes elementBits offsetBits nearest typeOf types numberOf highFirst bytesOf highBytes joined storedPosition positionFrom orderOf orderFrom insertWithAfter configurations storedPixels pixelBytes product indexAt linearPosition described wordsOf wordField dimsOf dimsFrom foundFirst rangeField wholeNumber natural digitsFrom digit same textOf unescapedAfter withoutLineBreaks meaning meanings lookupByte valueOf valueSpan trimmed leading trimmedEnd whitespace withoutOpeningQuote withoutClosingQuote quotedText escapedBody letter letters opened openedFrom blockAt headerAt frameAt openingAt
+unfolding table fortyNine delivered deliveredElement storedElement elementBytes elementBits offsetBits nearest typeOf types numberOf highFirst bytesOf highBytes joined storedPosition positionFrom orderOf orderFrom insertWithAfter configurations storedPixels pixelBytes product indexAt linearPosition described wordsOf wordField dimsOf dimsFrom foundFirst rangeField wholeNumber natural digitsFrom digit same textOf unescapedAfter withoutLineBreaks meaning meanings lookupByte valueOf valueSpan trimmed leading trimmedEnd whitespace withoutOpeningQuote withoutClosingQuote quotedText escapedBody letter letters opened openedFrom startAfter firstStart visibleFrom firstFrom firstWith provesKind2 blockAt headerAt frameAt openingAt
 examples-hold =
     (λ o. (refl, refl), (λ o. (refl, refl), (λ o. (refl, refl), (λ o. (refl, refl), (refl, (refl, (λ o. refl, (refl, (refl, (refl, (refl, (refl, (refl, tt)))))))))))))
 

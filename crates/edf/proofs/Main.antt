@@ -37,6 +37,10 @@ module _ {s : List ℕ} where
   pub one-parse : {h : Header} {ts us : List Statement} → Parse s h ts → Parse s h us → ts ≡ us
   one-parse = blocks.one-parse s
 
+-- The blocks of a cut use up every byte, in kind 1 together with whitespace before, between and after them.
+pub every-byte : {s : List ℕ} {blocks : List Block} (c : Cut s blocks) (k : ℕ) → k < length s → Covered s (c .partition .rules .kind) (c .rows) k
+every-byte {s} c = blocks.every-byte s (c .partition)
+
 -- ---- What is written reads back, for every frame, title and pixels: all types, one to three dimensions, every configuration
 
 -- A frame, title and pixels that are allowed (`Writes` lists the conditions) are written, if the buffer has room for the file.

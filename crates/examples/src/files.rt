@@ -46,7 +46,8 @@ fn closed_at(at: usize) {
     open_first(&s, at + 2);
 }
 
-// The file of 1,396 bytes, the same without its last byte, no byte, an identity with memory 1, and headers on both sides of each limit.
+// The file of 1,396 bytes, the same without its last byte, no byte, an identity with memory 1, headers of kind 1 on both sides of 512
+// and of 65,536 bytes, a header of kind 2 that is no multiple of 512, and whitespace around blocks of both kinds.
 pub(crate) fn examples(file: &[u8]) {
     print::put(b'\n');
     open(file);
@@ -57,4 +58,7 @@ pub(crate) fn examples(file: &[u8]) {
     closed_at(509);
     closed_at(65534);
     closed_at(66046);
+    open(b"{EDF_DataBlockID=1.Image.Psd;}\n");
+    open(b" {}\n\t{Size=1;}\n. ");
+    open(b" {EDF_DataBlockID=1.Image.Psd;}\n");
 }

@@ -13,9 +13,10 @@ use Rattle.header.proofs.SayLaws.{entries-say}
 use Rattle.blocks.specs.Grammar.{HasHeader, Partition}
 use Rattle.blocks.specs.Places.{EntryAt}
 use Rattle.blocks.specs.declared.Row.{Row}
-use Rattle.blocks.proofs.BlockLaws.{said-same, keys-distinct}
+use Rattle.blocks.proofs.Said.{said-same, keys-distinct}
 use Rattle.blocks.proofs.PlaceLaws.{finds-entry, one-at}
-use Rattle.blocks.proofs.Unambiguous.{row-header}
+use Rattle.blocks.proofs.Roles.{general-two}
+use Rattle.blocks.proofs.Unambiguous.{block-of, row-header}
 use Rattle.locality.proofs.Rows.{member-at}
 use Rattle.fields.specs.Keyword.{HeaderHas}
 
@@ -67,7 +68,18 @@ module _ {s : List ℕ} {rows : List Row} (p : Partition s rows) where
         stands = record { header = r .stands; parse = r .parse; says = entries-say (bodyOf s (r .header)) (r .statements) };
       }
 
-  pub first-headed : Headed s 0
-  first-headed =
-      let f = p .first-header in
-      record { header = f .header; statements = f .statements; entries = f .entries; stands = f .stands }
+  -- The general header, if there is one, stands at 0.
+  module _ {first : Row} (at : getElem? rows 0 ≡ some first) (general : first .kind ≡ 0) where
+    pub general-stands : HasHeader s 0 (p .first-header .heads .header) (p .first-header .heads .statements) (p .first-header .entries)
+    general-stands =
+        let f = p .first-header .heads in
+        let e : 0 ≡ f .start = f .gap .end-to-end (general-two (block-of p (member-at rows 0 at) .2 .rules .role) general) in
+        subst (λ (i : ℕ). HasHeader s i (f .header) (f .statements) (p .first-header .entries)) (sym e) (f .stands)
+
+    abbrev pub general-headed : Headed s 0
+    general-headed = record {
+      header = p .first-header .heads .header;
+      statements = p .first-header .heads .statements;
+      entries = p .first-header .entries;
+      stands = general-stands;
+    }

@@ -9,7 +9,7 @@ use lib.Dec.{eqb}
 use lib.ListN.{length, getElem?}
 use Rattle.scan.specs.Outcome.{ok, refused, present}
 use Rattle.scan.proofs.Cases.{by-test, none-some}
-use Rattle.scan.proofs.Decides.{Decides, holds, fails, decides-by, decides-and, decides-not, eqb-decides}
+use Rattle.scan.proofs.Decides.{Decides, decided, holds, fails, decides-by, decides-and, decides-not, eqb-decides}
 use Rattle.scan.proofs.Finds.{Finds, found, missing, finds-some, finds-none, finds-has, finds-no}
 use Rattle.text.specs.Key.{keyOf}
 use Rattle.header.specs.Entries.{lookup}
@@ -23,7 +23,7 @@ use Rattle.blocks.proofs.PlaceLaws.{edf-decides}
 use Rattle.keyword.specs.Keyword.{View, isGeneral, generalEntries, viewOf, firstOf, lookupIn, entryOf}
 use Rattle.keyword.proofs.Headers.{entries-read}
 use Rattle.fields.specs.Keyword.{HeaderHas, HeaderLacks, Inherits, HasKeyword, LacksKeyword}
-use Rattle.fields.proofs.HeaderLaws.{finds-in-header, one-in-header, row-headed, first-headed}
+use Rattle.fields.proofs.HeaderLaws.{finds-in-header, one-in-header, row-headed, general-stands, general-headed}
 use Rattle.fields.proofs.Present.{present-some, present-none}
 
 -- ---- Whether the general header is in reach
@@ -62,11 +62,14 @@ module _ {s : List ℕ} {rows : List Row} {row : Row} {sought : List ℕ} where
   lacks n m e (HasKeyword.general k i x) = m i e x
 
   finds-by-headers : {own general : Option Entry} {b : Bool} → Finds (HeaderHas s (row .start) (keyOf sought)) own
-      → Decides (Inherits rows row (keyOf sought)) b → Finds (HeaderHas s 0 (keyOf sought)) general
+      → Decides (Inherits rows row (keyOf sought)) b → (Inherits rows row (keyOf sought) → Finds (HeaderHas s 0 (keyOf sought)) general)
       → Finds (HasKeyword s rows row sought) (firstOf own (cond b general none))
   finds-by-headers (found x) d g = found (HasKeyword.own x)
-  finds-by-headers (missing n) (holds i) (found x) = found (HasKeyword.general n i x)
-  finds-by-headers (missing n) (holds i) (missing m) = missing (lacks n (λ j. m))
+  finds-by-headers (missing n) (holds i) g = inherited (g i)
+    where
+      inherited : {general : Option Entry} → Finds (HeaderHas s 0 (keyOf sought)) general → Finds (HasKeyword s rows row sought) general
+      inherited (found x) = found (HasKeyword.general n i x)
+      inherited (missing m) = missing (lacks n (λ j. m))
   finds-by-headers (missing n) (fails k) g = missing (lacks n (λ i. absurd (k i)))
 
   -- A block has one statement of a keyword at most.
@@ -85,7 +88,7 @@ module _ {s : List ℕ} {rows : List Row} (small : length s ≤ fileLimit) (p : 
     viewHere = record {
       row = row;
       own = row-headed p b at .entries;
-      general = cond (shared rows row) (first-headed p .entries) [];
+      general = cond (shared rows row) (p .first-header .entries) [];
     }
 
     pub view-is : viewOf s b ≡ ok viewHere
@@ -93,16 +96,20 @@ module _ {s : List ℕ} {rows : List Row} (small : length s ≤ fileLimit) (p : 
     view-is =
         let read = file-accepted s small .1 p in
         let own = entries-read (row-headed p b at .stands) in
-        let first = entries-read (first-headed p .stands) in
-        by-test (shared rows row) (λ t. rw (read, at, own, t, first)) (λ t. rw (read, at, own, t))
+        by-test (shared rows row)
+        (λ t.
+        let g = decided (decides-and (eqb-decides (row .kind) 1) (general-decides (getElem? rows 0))) t .1 in
+        rw (read, at, own, t, entries-read (general-stands p (g .1) (g .2))))
+        (λ t. rw (read, at, own, t))
 
     module _ (sought : List ℕ) where
       pub finds-keyword : Finds (HasKeyword s rows row sought) (lookupIn viewHere sought)
       unfolding lookupIn
       finds-keyword =
           let k = keyOf sought in
-          rw (in-reach (isEdfKey k) (shared rows row) k (first-headed p .entries))
-          (finds-by-headers (finds-in-header (row-headed p b at)) (inherits-decides rows row k) (finds-in-header (first-headed p)))
+          rw (in-reach (isEdfKey k) (shared rows row) k (p .first-header .entries))
+          (finds-by-headers (finds-in-header (row-headed p b at)) (inherits-decides rows row k)
+          (λ i. finds-in-header (general-headed p (i .first-is) (i .general))))
 
       entry-by : entryOf s b sought ≡ present (lookupIn viewHere sought) 16 0
       unfolding entryOf

@@ -23,7 +23,7 @@ use Rattle.origins.specs.declared.Origins.{Origins}
 use Rattle.origins.proofs.LetterLaws.{own-general, own-default, general-default}
 use Rattle.fields.specs.Keyword.{HeaderHas, Inherits, HasKeyword, LacksKeyword}
 use Rattle.fields.specs.Origin.{OwnHas, GeneralHas, ComesFrom, EachOrigin, OriginsAre}
-use Rattle.fields.proofs.HeaderLaws.{finds-in-header, row-headed, first-headed}
+use Rattle.fields.proofs.HeaderLaws.{finds-in-header, row-headed, general-headed}
 use Rattle.fields.proofs.KeywordLaws.{shared, inherits-decides, in-reach, lacks, viewHere}
 
 module _ {s : List ℕ} {rows : List Row} {row : Row} {name : List ℕ} where
@@ -57,11 +57,14 @@ module _ {s : List ℕ} {rows : List Row} {row : Row} {name : List ℕ} where
   }
 
   from-headers : {own general : Option Entry} {b : Bool} → Finds (HeaderHas s (row .start) (keyOf name)) own
-      → Decides (Inherits rows row (keyOf name)) b → Finds (HeaderHas s 0 (keyOf name)) general
+      → Decides (Inherits rows row (keyOf name)) b → (Inherits rows row (keyOf name) → Finds (HeaderHas s 0 (keyOf name)) general)
       → ComesFrom s rows row name (originBy own (cond b general none))
   from-headers (found x) d g = from-own (_, x)
-  from-headers (missing n) (holds i) (found x) = from-general (λ h. n (h .0) (h .1)) (i, (_, x))
-  from-headers (missing n) (holds i) (missing m) = from-nowhere (lacks n (λ j. m))
+  from-headers (missing n) (holds i) g = inherited (g i)
+    where
+      inherited : {general : Option Entry} → Finds (HeaderHas s 0 (keyOf name)) general → ComesFrom s rows row name (originBy none general)
+      inherited (found x) = from-general (λ h. n (h .0) (h .1)) (i, (_, x))
+      inherited (missing m) = from-nowhere (lacks n (λ j. m))
   from-headers (missing n) (fails k) g = from-nowhere (lacks n (λ i. absurd (k i)))
 
 -- ---- The seven
@@ -97,8 +100,9 @@ module _ {s : List ℕ} {rows : List Row} (small : length s ≤ fileLimit) (p : 
   unfolding originIn
   comes-from name =
       let k = keyOf name in
-      rw (in-reach (isEdfKey k) (shared rows row) k (first-headed p .entries))
-      (from-headers (finds-in-header (row-headed p b at)) (inherits-decides rows row k) (finds-in-header (first-headed p)))
+      rw (in-reach (isEdfKey k) (shared rows row) k (p .first-header .entries))
+      (from-headers (finds-in-header (row-headed p b at)) (inherits-decides rows row k)
+      (λ i. finds-in-header (general-headed p (i .first-is) (i .general))))
 
   pub origins-are : OriginsAre s rows row (originsIn (viewHere small p b at))
   origins-are = each-by (originIn (viewHere small p b at)) comes-from

@@ -9,7 +9,7 @@ use Rattle.header.specs.declared.Statement.{Statement}
 use Rattle.header.proofs.FrameLaws.{header-complete}
 use Rattle.header.proofs.StatementLaws.{statements-complete}
 use Rattle.blocks.specs.Grammar.{HasHeader}
-use Rattle.blocks.proofs.BlockLaws.{said-once}
+use Rattle.blocks.proofs.Said.{said-once}
 use Rattle.keyword.specs.Keyword.{entriesAt}
 
 pub entries-read : {s : List ℕ} {start : ℕ} {h : Header} {ts : List Statement} {es : List Entry} → HasHeader s start h ts es

@@ -1,10 +1,11 @@
 -- The view of a block that two files share depends on its row, on its bytes and on those of the general header alone.
-use mathlib.Core.Path.{_≡_, refl, sym, ap, _∙_}
+use mathlib.Core.Path.{_≡_, refl, sym, ap, subst, _∙_}
 use mathlib.Core.Bool.{cond}
 use mathlib.Core.List.{List, [], _∷_, map}
 use mathlib.Core.Option.{Option, none, some}
 use Prim.Native.Nat.{ℕ, _+_, _≤_}
 use native.Mathlib.Omega.{arith}
+use borrow.Author.Tests.{eqb-true}
 use lib.Dec.{eqb}
 use lib.ListN.{length, take, getElem?}
 use lib.Seq.{take-take}
@@ -12,10 +13,11 @@ use Rattle.scan.specs.Chain.{Chain}
 use Rattle.scan.specs.Outcome.{Outcome, ok, _>>=_}
 use Rattle.scan.proofs.Cases.{by-test, by-outcome}
 use Rattle.header.specs.Entry.{Entry}
-use Rattle.blocks.specs.Grammar.{Rules, IsBlock, Partition}
+use Rattle.blocks.specs.Grammar.{Rules, HasHeader, Gap, IsBlock, SpacedBlock, Partition}
 use Rattle.blocks.specs.declared.Row.{Row}
 use Rattle.blocks.proofs.Answers.{file-accepted}
 use Rattle.blocks.proofs.Prefix.{has-local}
+use Rattle.blocks.proofs.Roles.{general-start}
 use Rattle.blocks.proofs.Unambiguous.{block-of}
 use Rattle.locality.specs.Blocks.{AcceptedFile, blockBytes, generalHeader}
 use Rattle.locality.specs.Moved.{movedEntry, movedRow, mapOutcome}
@@ -55,22 +57,24 @@ abbrev pub generalBy : ℕ → Option (List ℕ) → Outcome (List Entry)
 generalBy kind none = ok []
 generalBy kind (some bytes) = cond (eqb kind 1) (entriesAt bytes 0) (ok [])
 
-first-said : {s : List ℕ} {r : Rules} {row : Row} {next : ℕ} → IsBlock s r 0 row next → entriesAt s 0 ≡ entriesAt (take (row .header) s) 0
-first-said {s} {row = row} b =
-    entries-read (b .stands)
+first-said : {s : List ℕ} {r : Rules} {at next : ℕ} {row : Row} → IsBlock s r at row next → row .kind ≡ 0
+    → entriesAt s 0 ≡ entriesAt (take (row .header) s) 0
+first-said {s} {row = row} b z =
+    let k = subst (λ (i : ℕ). HasHeader s i (b .header) (b .statements) (b .entries)) (general-start (b .rules .role) z) (b .stands) in
+    entries-read k
     ∙ sym (entries-read (has-local (row .header) s (take (row .header) s) (sym (take-take (row .header) (row .header) s (omega arith)))
-    (omega (arith, b .length-is)) (b .stands)))
+    (omega (arith, b .length-is)) k))
 
 pub general-by : {s : List ℕ} {rows : List Row} → Partition s rows → (row : Row) → generalEntries s rows row ≡ generalBy (row .kind) (generalHeader s rows)
 unfolding generalEntries
 general-by {s} {rows} c row = go rows (c .blocks) (c .not-empty)
   where
-    go : (xs : List Row) → Chain (IsBlock s (c .rules)) (λ at. at ≡ length s) 0 xs → 1 ≤ length xs
+    go : (xs : List Row) → Chain (SpacedBlock s (c .rules)) (λ at. Gap s (c .rules .kind) at (length s)) 0 xs → 1 ≤ length xs
         → generalEntries s xs row ≡ generalBy (row .kind) (generalHeader s xs)
     go [] b l = absurd (omega arith)
     go (x ∷ xs) b l =
         by-test (eqb (x .kind) 0)
-        (λ t. by-test (eqb (row .kind) 1) (λ u. rw (t, u, first-said (b .1))) (λ u. rw (t, u)))
+        (λ t. by-test (eqb (row .kind) 1) (λ u. rw (t, u, first-said (b .1 .block) (eqb-true (x .kind) 0 t))) (λ u. rw (t, u)))
         (λ t. by-test (eqb (row .kind) 1) (λ u. rw (t, u)) (λ u. rw (t, u)))
 
 -- ---- The view

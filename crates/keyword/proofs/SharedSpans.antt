@@ -19,9 +19,11 @@ use Rattle.header.specs.declared.Header.{Header}
 use Rattle.header.specs.declared.Statement.{Statement}
 use Rattle.header.proofs.FrameLaws.{header-inside}
 use Rattle.header.proofs.Spans.{statement-in-header}
-use Rattle.blocks.specs.Grammar.{Rules, HasHeader, IsBlock, Partition}
+use Rattle.blocks.specs.Grammar.{Rules, HasHeader, Gap, IsBlock, SpacedBlock, Partition}
 use Rattle.blocks.specs.declared.Row.{Row}
-use Rattle.blocks.proofs.BlockLaws.{block-inside, said-once}
+use Rattle.blocks.proofs.BlockPlaces.{spaced-inside}
+use Rattle.blocks.proofs.Roles.{general-start}
+use Rattle.blocks.proofs.Said.{said-once}
 use Rattle.locality.proofs.Chains.{chain-behind}
 use Rattle.locality.proofs.Rows.{member-at}
 use Rattle.keyword.specs.Keyword.{entriesAt, generalEntries}
@@ -55,29 +57,30 @@ unfolding generalEntries lookup
 general-before {s} {rows} c k {row} at {g} q key {e} l = go rows k (c .blocks) at q
   where
     -- The first block ends where the next ones start, or before.
-    inside : {r : Rules} {x : Row} {next : ℕ} → IsBlock s r 0 x next → entriesAt s 0 ≡ ok g → e .span .offset < next
-    inside b w =
-        let p : ok g ≡ ok (b .entries) = sym w ∙ entries-read (b .stands) in
+    inside : {r : Rules} {x : Row} {at next : ℕ} → IsBlock s r at x next → x .kind ≡ 0 → entriesAt s 0 ≡ ok g → e .span .offset < next
+    inside {at = at} b general w =
+        let p : ok g ≡ ok (b .entries) = sym w ∙ ap (entriesAt s) (sym (general-start (b .rules .role) general)) ∙ entries-read (b .stands) in
         let z : g ≡ b .entries = cc in
         omega (arith, span-inside (b .stands) key (rw z at l), b .length-is, b .ends)
 
     behind : (x : Row) (xs : List Row) (k : ℕ) {from : ℕ} → row .kind ≡ 1 → x .kind ≡ 0 → getElem? (x ∷ xs) k ≡ some row
-        → Chain (IsBlock s (c .rules)) (λ end. end ≡ length s) from xs → from ≤ row .start
+        → Chain (SpacedBlock s (c .rules)) (λ at. Gap s (c .rules .kind) at (length s)) from xs → from ≤ row .start
     behind x xs zero one general a b =
         absurd (omega (arith, ap (λ (y : Row). y .kind) (Option·some-injective x row a)))
     behind x xs (suc k) {from} one general a b =
-        let r = chain-behind (IsBlock s (c .rules)) (λ end. end ≡ length s) (λ i y m d. block-inside d .0) from xs b (member-at xs k a) in
-        omega (arith, r .2, r .3 .starts)
+        let r = chain-behind (SpacedBlock s (c .rules)) (λ at. Gap s (c .rules .kind) at (length s)) (λ i y m d. spaced-inside d .0) from xs b (member-at xs k a) in
+        omega (arith, r .2, r .3 .gap .order)
 
-    go : (xs : List Row) (k : ℕ) → Chain (IsBlock s (c .rules)) (λ end. end ≡ length s) 0 xs → getElem? xs k ≡ some row
+    go : (xs : List Row) (k : ℕ) → Chain (SpacedBlock s (c .rules)) (λ at. Gap s (c .rules .kind) at (length s)) 0 xs → getElem? xs k ≡ some row
         → generalEntries s xs row ≡ ok g → e .span .offset < row .start
     go [] k b a w = absurd (none-some a)
     go (x ∷ xs) k b a w =
         by-test (eqb (row .kind) 1 && eqb (x .kind) 0)
         (λ u.
         let kinds = both-true (eqb (row .kind) 1) (eqb (x .kind) 0) u in
-        let m = behind x xs k (decided (eqb-decides (row .kind) 1) (kinds .0)) (decided (eqb-decides (x .kind) 0) (kinds .1)) a (b .2) in
-        omega (arith, inside (b .1) (rw u at w), m))
+        let general = decided (eqb-decides (x .kind) 0) (kinds .1) in
+        let m = behind x xs k (decided (eqb-decides (row .kind) 1) (kinds .0)) general a (b .2) in
+        omega (arith, inside (b .1 .block) general (rw u at w), m))
         (λ u.
         let p : ok [] ≡ ok g = rw u at w in
         let z : [] ≡ g = cc in

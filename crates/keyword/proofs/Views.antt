@@ -1,18 +1,18 @@
 -- The view of a block, by the rows of the opened file.
-use mathlib.Core.Path.{_≡_, refl, sym, ap, _∙_}
+use mathlib.Core.Path.{_≡_, refl, sym, ap, subst, _∙_}
 use mathlib.Core.Bool.{true, false, _&&_}
 use mathlib.Core.Logic.{_≢_}
 use mathlib.Core.List.{List, [], _∷_}
 use mathlib.Core.Option.{none, some}
 use Prim.Native.Nat.{ℕ, zero, suc, _+_, _≤_, _<_}
 use native.Mathlib.Omega.{arith}
-use borrow.Author.Tests.{lt-leb, eq-eqb, ne-eqb}
+use borrow.Author.Tests.{lt-leb, eq-eqb, ne-eqb, eqb-true}
 use lib.Dec.{eqb}
 use lib.ListN.{length, take, getD, getElem?, length-take}
 use lib.Seq.{length-take-le, getD-take}
 use Rattle.scan.specs.Outcome.{Outcome, ok, failed, refused}
 use Rattle.scan.specs.declared.Error.{Error}
-use Rattle.scan.proofs.Cases.{by-option, by-outcome, by-order, none-some, ok-failed}
+use Rattle.scan.proofs.Cases.{by-test, by-option, by-outcome, by-order, both-true, none-some, ok-failed}
 use Rattle.header.specs.Entry.{bodyOf}
 use Rattle.header.specs.Frame.{headerAt}
 use Rattle.header.specs.Grammar.{IsHeader, Parse}
@@ -27,7 +27,7 @@ use Rattle.blocks.specs.declared.Opened.the-variants.{Blocks, Failed}
 use Rattle.blocks.specs.declared.Row.{Row}
 use Rattle.blocks.proofs.Answers.{within-limit}
 use Rattle.blocks.proofs.Sound.{opened-sound}
-use Rattle.blocks.proofs.Unambiguous.{row-header, row-inside}
+use Rattle.blocks.proofs.Unambiguous.{general-row, row-header, row-inside}
 use Rattle.locality.proofs.Rows.{member-at}
 use Rattle.opening.specs.Core.{Opens}
 use Rattle.opening.specs.declared.Opening.{Opening}
@@ -97,9 +97,10 @@ module _ (s : List ℕ) where
         let r = row-header (opened-sound s o) (member-at rows k e) in
         parsed-headed (r .stands) (r .parse)
 
-    -- and so has the file.
-    pub first-headed : Headed s 0
-    first-headed = let f = opened-sound s o .first-header .stands in parsed-headed (f .header) (f .parse)
+    -- and a general block starts with the file.
+    pub general-headed : {first : Row} → getElem? rows 0 ≡ some first → eqb (first .kind) 0 ≡ true → Headed s 0
+    general-headed {first} e t =
+        subst (Headed s) (general-row (opened-sound s o) (member-at rows 0 e) (eqb-true (first .kind) 0 t)) (row-headed 0 e)
 
     -- A row lies inside the file.
     pub row-within : (k : ℕ) {row : Row} → getElem? rows k ≡ some row → row .start + row .header + row .size ≤ length s
@@ -158,8 +159,11 @@ module _ (s : List ℕ) where
       unfolding viewOf generalEntries rowView
       row-view {rows} e {first} {row} f g =
           let x = row-headed (sym e) k g in
-          let y = first-headed (sym e) in
-          rw (within-limit s l, sym e, f, g, headed-entries x, headed-entries y, x .frame, y .frame)
+          by-test (eqb (row .kind) 1 && eqb (first .kind) 0)
+          (λ b.
+          let y = general-headed (sym e) f (both-true (eqb (row .kind) 1) (eqb (first .kind) 0) b .1) in
+          rw (within-limit s l, sym e, f, g, headed-entries x, x .frame, b, headed-entries y, y .frame))
+          (λ b. rw (within-limit s l, sym e, f, g, headed-entries x, x .frame, b))
 
       -- The rows in the first places of an array.
       pub block-view : (n : ℕ) (rows : List Row) → ok (take n rows) ≡ opened s → n ≤ length rows → k < n → (z : Row)

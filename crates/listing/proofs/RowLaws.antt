@@ -1,6 +1,6 @@
 -- The rows of an opened file: each has a view, and lies inside the file.
 use mathlib.Core.Path.{_≡_, sym, ap, _∙_}
-use mathlib.Core.Bool.{_&&_}
+use mathlib.Core.Bool.{true, _&&_}
 use mathlib.Core.List.{List, [], _++_}
 use Prim.Native.Nat.{ℕ, _+_, _≤_, _<_}
 use native.Mathlib.Omega.{arith}
@@ -10,7 +10,7 @@ use lib.ListN.{length, take, getD}
 use lib.Seq.{length-take-le}
 use Rattle.scan.specs.Outcome.{Outcome, ok, failed, errorAt, _>>=_}
 use Rattle.scan.specs.declared.Error.{Error}
-use Rattle.scan.proofs.Cases.{by-test}
+use Rattle.scan.proofs.Cases.{by-test, both-true}
 use Rattle.header.specs.Frame.{headerAt}
 use Rattle.header.specs.declared.Header.{Header}
 use Rattle.blocks.specs.Opening.{openedFile}
@@ -23,7 +23,7 @@ use Rattle.opening.specs.Core.{Opens}
 use Rattle.opening.specs.declared.Opening.{Opening}
 use Rattle.keyword.specs.Keyword.{View}
 use Rattle.keyword.specs.Viewing.{headerEntries, rowView}
-use Rattle.keyword.proofs.Views.{taken-at, row-headed, first-headed, row-within, block-view, opening-few}
+use Rattle.keyword.proofs.Views.{Headed, taken-at, row-headed, general-headed, row-within, block-view, opening-few}
 use Rattle.description.specs.Describe.{descriptionIn, descriptionOf}
 use Rattle.description.specs.declared.Description.{Description}
 use Rattle.description.proofs.DescribedLaws.{block-valid}
@@ -38,12 +38,13 @@ use Rattle.listing.proofs.DescriptionErrors.{description-errors}
 
 module _ (s : List ℕ) where
   -- A row whose headers stand has a view.
-  row-viewed : (first row : Row) {own general : Header} → headerAt s (row .start) ≡ ok own → headerAt s 0 ≡ ok general
+  row-viewed : (first row : Row) {own : Header} → headerAt s (row .start) ≡ ok own → (eqb (first .kind) 0 ≡ true → Headed s 0)
       → (v : View) × (rowView s first row ≡ ok v)
   unfolding rowView
-  row-viewed first row {own} {general} e f =
+  row-viewed first row {own} e f =
       by-test (eqb (row .kind) 1 && eqb (first .kind) 0)
-      (λ t. (record { row = row; own = headerEntries s own; general = headerEntries s general }, rw (e, t, f)))
+      (λ t. let g = f (both-true (eqb (row .kind) 1) (eqb (first .kind) 0) t .1) in
+      (record { row = row; own = headerEntries s own; general = headerEntries s (g .header) }, rw (e, t, g .frame)))
       (λ t. (record { row = row; own = headerEntries s own; general = [] }, rw (e, t)))
 
   module _ {rows : List Row} {count : ℕ} (f : FileRows s rows count) where
@@ -51,8 +52,8 @@ module _ (s : List ℕ) where
     is-row k h z =
         let g = taken-at count rows k z (omega (arith, f .few, f .whole)) h in
         let x = row-headed s (f .opens) k g in
-        let y = first-headed s (f .opens) in
-        let v = row-viewed (getD rows 0 z) (getD rows k z) (x .frame) (y .frame) in
+        let first = taken-at count rows 0 z (omega (arith, f .few, f .whole)) (omega arith) in
+        let v = row-viewed (getD rows 0 z) (getD rows k z) (x .frame) (general-headed s (f .opens) first) in
         let e = block-view s k (f .limit) count rows (sym (f .opens)) (omega (arith, f .few, f .whole)) h z in
         record {
           view = v .0;

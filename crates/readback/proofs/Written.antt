@@ -1,5 +1,5 @@
 -- The file that the writer makes has a partition of one block, with the frame's identity and the data's length.
-use mathlib.Core.Path.{_≡_, refl, ap}
+use mathlib.Core.Path.{_≡_, refl, sym, ap}
 use mathlib.Core.Bool.{true}
 use mathlib.Core.Logic.{inl}
 use mathlib.Core.List.{List, [], _∷_, _++_, List·Memᴰ·not-nil}
@@ -32,8 +32,10 @@ use Rattle.blocks.specs.Keys.{BlockIDKey, FileNameKey, HeaderSizeKey}
 use Rattle.blocks.specs.Places.{kind-2, here, HasKey, CountsIn}
 use Rattle.blocks.specs.Values.{NumberOr, LengthOrAbsent, IsIdentity}
 use Rattle.blocks.specs.declared.Row.{Row}
-use Rattle.blocks.proofs.BlockLaws.{keys-distinct}
-use Rattle.blocks.proofs.Coded.{kind-reads, size-reads}
+use Rattle.blocks.proofs.Said.{keys-distinct}
+use Rattle.blocks.proofs.FirstLaws.{heads-zero}
+use Rattle.blocks.proofs.Coded.{kinds-differ, kind-reads, size-reads}
+use Rattle.blocks.proofs.Gaps.{no-gap}
 use Rattle.blocks.proofs.IdentityBack.{identity-back, identity-word, identity-length}
 use Rattle.raster.specs.Types.{orderWords}
 use Rattle.frame.specs.File.{frameDims, frameType, fileData, keywordsOf, fileOf}
@@ -104,6 +106,7 @@ module _ (v : Values) (t l : List ℕ) {ds : List ℕ} (d : Dims ds) (w : AreWor
         statements = statementsFor (keywordsWith v ds t);
         entries = entriesFor (keywordsWith v ds t);
         stands = stands;
+        brace = λ q. absurd (kinds-differ (sym q));
         starts = refl;
         length-is = refl;
         rules = keeps;
@@ -115,14 +118,8 @@ module _ (v : Values) (t l : List ℕ) {ds : List ℕ} (d : Dims ds) (w : AreWor
   one-block =
       record {
         rules = plainRules kind-2;
-        first-header = record {
-          header = headerFor (keywordsWith v ds t);
-          statements = statementsFor (keywordsWith v ds t);
-          entries = entriesFor (keywordsWith v ds t);
-          stands = stands;
-          declares = data-first (first-key v ds t w) refl;
-        };
-        blocks = (length (header ++ l), block, refl);
+        first-header = record { entries = entriesFor (keywordsWith v ds t); heads = heads-zero stands; declares = data-first (first-key v ds t w) refl };
+        blocks = (length (header ++ l), record { gap = no-gap 0; block = block }, no-gap (length (header ++ l)));
         not-empty = omega arith;
         few = omega arith;
         identities = λ k. ((λ y m x. List·Memᴰ·not-nil m), tt);

@@ -2,7 +2,7 @@
 pub use mathlib.Core.Path.{_≡_, refl, ap, _∙_}
 pub use mathlib.Core.Logic.{_↔_}
 pub use mathlib.Core.List.{List, [], _∷_, _++_, List·Memᴰ}
-pub use Prim.Native.Nat.{ℕ, _+_, _*_, _≤_}
+pub use Prim.Native.Nat.{ℕ, _+_, _*_, _≤_, _<_}
 pub use lib.IntN.{pos}
 pub use lib.ListN.{length, take, drop}
 -- ---- Answers of the calls
@@ -27,6 +27,7 @@ pub use Rattle.header.specs.declared.Header.{Header}
 pub use Rattle.header.specs.declared.Statement.{Statement}
 pub use Rattle.blocks.specs.Grammar.{Partition, Block, Cut, BlockHeader}
 pub use Rattle.blocks.specs.declared.Row.{Row}
+pub use Rattle.blocks.proofs.Covered.{Covered}
 pub use Rattle.raster.specs.Bytes.{numberOf}
 pub use Rattle.raster.specs.Pixels.{pixelOf}
 pub use Rattle.frame.specs.File.{frameDims, frameType, writtenFile}
