@@ -43,8 +43,17 @@ pub const INDEPENDENCE_FAULTS: &[Fault] = &[
     // Concatenated files: rows that do not move, bounds that are counted from the file's start, a block that takes bytes of the next.
     fault("opening.rs", "start: block.header.start,", "start: block.header.start.min(1_024),"),
     fault("opening.rs", "start: block.header.start,", "start: block.header.start.next_multiple_of(512),"),
-    fault("opening.rs", "length % i128::from(boundary) == 0", "(header.start as i128 + length) % i128::from(boundary) == 0"),
+    fault("opening.rs", "role == Role::Plain || length_kept(", "(role == Role::Plain && start < 2_048) || length_kept("),
     fault("header.rs", "rest.len().min(LONGEST_HEADER)", "rest.len().min(LONGEST_HEADER.saturating_sub(start))"),
     fault("opening.rs", "MOST_BLOCKS: usize = 256", "MOST_BLOCKS: usize = 255"),
     fault("opening.rs", "let extent = facts.extent as usize;", "let extent = if facts.extent == 0 { before.last().map_or(0, |block| block.extent).min(room as usize) } else { facts.extent as usize };"),
+    // Gaps: some only before the first block, after the last or up to a length; the start of a row is that of its gap; a gap is taken for data.
+    fault("opening.rs", "Some(Role::Plain) | None => first_solid(file, end)", "None => first_solid(file, end), Some(Role::Plain) => Some(first_solid(file, end)).filter(|&start| start == file.len()).unwrap_or(end)"),
+    fault("opening.rs", "Some(Role::Plain) | None => first_solid(file, end)", "Some(Role::Plain) | None => Some(first_solid(file, end)).filter(|&start| start == file.len() || start < end + 8).unwrap_or(end)"),
+    fault("opening.rs", "Some(Role::Plain) | None => first_solid(file, end)", "Some(Role::Plain) | None => Some(first_solid(file, end)).filter(|_| before.len() < 2).unwrap_or(end)"),
+    fault("opening.rs", "judged(file, header, statements, role, before)", "{ let end = before.last().map_or(0, |block| block.header.start + block.header.length + block.extent); judged(file, Header { start: end, length: header.length + header.start - end, ..header }, statements, role, before) }"),
+    fault("opening.rs", "judged(file, header, statements, role, &[])", "judged(file, Header { start: 0, length: header.length + header.start, ..header }, statements, role, &[])"),
+    fault("opening.rs", "let extent = facts.extent as usize;", "let extent = if role == Role::Plain { first_solid(file, start + header.length + facts.extent as usize) - start - header.length } else { facts.extent as usize };"),
+    fault("array.rs", "let start = block.header.start + block.header.length;", "let start = super::white::first_solid(file, block.header.start + block.header.length + block.extent) - block.extent;"),
+    fault("keywords.rs", ".map(|s| s.value)", ".map(|s| Span { start: s.value.start - block.header.start.min(3), ..s.value })"),
 ];

@@ -1,5 +1,5 @@
 //! The examples of 01, "Examples both sides", one by one, by the second reader and by the library; and those of FORMAT.md for the real
-//! numbers of 02, No. 2. Listings have the letters of 02, No. 1.
+//! numbers of 02, No. 2, and the whitespace of 02, No. 4. Listings have the letters of 02, No. 1.
 
 use edf_tests::both::*;
 use edf_tests::files::{array, padded};
@@ -73,13 +73,30 @@ fn bounds_of_reals() {
 
 #[test]
 fn files() {
+    let header = |length: usize| padded("EDF_DataBlockID=1.Image.Psd;", length);
     assert_eq!(opened(b""), (3, 0));
-    assert_eq!(opened(&padded("", 512)), (0, 0));
-    assert_eq!(opened(&padded("", 511)), (11, 0));
-    assert_eq!(opened(&padded("", 65_536)), (0, 0));
-    assert_eq!(opened(&padded("", 66_048)), (5, 0));
+    assert_eq!(opened(&header(512)), (0, 0));
+    assert_eq!(opened(&header(511)), (11, 0));
+    assert_eq!(opened(&header(65_536)), (0, 0));
+    assert_eq!(opened(&header(66_048)), (5, 0));
     assert_eq!(opened(&padded("EDF_DataBlockID=1.Image.Psd.1;", 512)), (9, 0));
     assert_eq!(opened(&padded("EDF_DataBlockID=1.Image.Psd;EDF_BinarySize=1;", 512)), (12, 0));
+}
+
+/// "white may stand before the first header, between blocks and after the last, in no row; a header starts at its brace, and its length need be
+/// no multiple of anything": 02, No. 4.
+#[test]
+fn whitespace_in_kind_1() {
+    let rows = |file: &[u8]| open(file, 256).map(|rows| rows.iter().map(|row| (row.start, row.header_length, row.data_length)).collect());
+    assert_eq!(rows(&[b"\n", &padded("", 511)[..]].concat()), Ok(vec![(1, 511, 0)]));
+    assert_eq!(rows(b" {Size=2;}\n   {}\n\t"), Ok(vec![(1, 10, 2), (14, 3, 0)]));
+    assert_eq!(rows(b" {EDF_DataBlockID=1.Image.Psd;}\n"), Err(Error { code: 3, position: 0 }));
+    assert_eq!(rows(b" \n "), Err(Error { code: 3, position: 3 }));
+    let mut file = b"{}\n".repeat(256);
+    file.push(b' ');
+    assert_eq!(opened(&file), (0, 0));
+    file.push(b'x');
+    assert_eq!(opened(&file), (14, 769));
 }
 
 #[test]

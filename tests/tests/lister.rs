@@ -64,6 +64,7 @@ fn both_sides_of_the_limit() {
         let line = format!("blocks 1\n0 0 512 {} - FloatIEEE32d HighByteFirstd 0d 1d 1d 0d\n", length - 512);
         assert_eq!(given(&file_of(length)), line);
         assert_eq!(given(&vec![b'x'; length]), "refused 3 0\n");
+        assert_eq!(given(&vec![b' '; length]), format!("refused 3 {length}\n"));
     }
     for length in [65_537, 65_538, 131_072, 1 << 20] {
         assert_eq!(given(&file_of(length)), "refused 1 0\n");

@@ -23,8 +23,8 @@ const GOOD: Outcome = (0, 0);
 
 #[test]
 fn one_and_two() {
-    let mut large = vec![0; 1 << 30];
-    assert_eq!(opened(&large), (3, 0));
+    let mut large = vec![b' '; 1 << 30];
+    assert_eq!(opened(&large), (3, 1 << 30));
     large[..512].copy_from_slice(&plain(&format!("Size={};", (1 << 30) - 512)));
     assert_eq!(opened(&large), GOOD);
     large.push(0);
@@ -39,7 +39,8 @@ fn one_and_two() {
 fn three_to_five() {
     let file = plain("");
     assert_eq!(opened(&[&file[..], &file[..]].concat()), GOOD);
-    assert_eq!(opened(&[&file[..], b" ", &file[..]].concat()), (3, 512));
+    assert_eq!(opened(&[&file[..], b" ", &file[..]].concat()), GOOD);
+    assert_eq!(opened(&[&file[..], b"x", &file[..]].concat()), (3, 512));
     assert_eq!(opened(&plain("a=\x7f;")), GOOD);
     assert_eq!(opened(&plain("a=\u{80};")), (4, 3));
     assert_eq!(opened(&plain("a=\0;")), (4, 3));
@@ -48,6 +49,57 @@ fn three_to_five() {
     assert_eq!(opened(&file[..511]), (5, 0));
     assert_eq!(opened(&padded("", 65_536)), GOOD);
     assert_eq!(opened(&padded("", 66_048)), (5, 0));
+}
+
+/// 3 in kind 2, and in both kinds before the kind is known.
+#[test]
+fn three_and_whitespace() {
+    let (one, two) = (data("1.Image.Psd", ""), data("2.Image.Psd", ""));
+    assert_eq!(opened(&[&one[..], &two].concat()), GOOD);
+    assert_eq!(opened(&[&one[..], b" ", &two].concat()), (3, 512));
+    assert_eq!(opened(&[&one[..], b"\n"].concat()), (3, 512));
+    for white in [" ", "\t", "\r", "\n", "\x0b", "\x0c"] {
+        assert_eq!(opened(format!("{white}{{}}\n{white}{{}}\n{white}").as_bytes()), GOOD);
+        assert_eq!(opened(white.repeat(7).as_bytes()), (3, 7));
+        assert_eq!(opened(format!("{white}{white}x").as_bytes()), (3, 2));
+        assert_eq!(opened(format!("{{}}\n{white}x").as_bytes()), (3, 4));
+    }
+    let first = |lead: &[u8]| opened(&[lead, &padded("EDF_DataBlockID=1.Image.Psd;", 512 - lead.len())].concat());
+    assert_eq!([first(b""), first(b"\n"), first(b"\r\n")], [GOOD; 3]);
+    assert_eq!([first(b" "), first(b"\r"), first(b"\n\n")], [(3, 0); 3]);
+}
+
+/// 5: the 65,536 bytes are counted from the brace until the kind is known, and in kind 2 from the pattern then.
+#[test]
+fn five_from_the_brace_and_from_the_pattern() {
+    let header = |lead: &str, body: &str, length: usize| opened(&[lead.as_bytes(), &padded(body, length)].concat());
+    for lead in ["", "\n", "\r\n", "\n\n", " "] {
+        assert_eq!(header(lead, "", 65_536), GOOD);
+        assert_eq!(header(lead, "", 65_537), (5, lead.len()));
+        assert_eq!(header(lead, "EDF_DataBlockID=1.Image.Psd;", 65_537), (5, lead.len()));
+    }
+    for lead in ["\n", "\r\n"] {
+        assert_eq!(header(lead, "EDF_DataBlockID=1.Image.Psd;", 65_536 - lead.len()), GOOD);
+        assert_eq!(header(lead, "EDF_DataBlockID=1.Image.Psd;", 65_537 - lead.len()), (5, 0));
+        assert_eq!(header(lead, "EDF_DataBlockID=1.Image.Psd;", 65_536), (5, 0));
+    }
+    for lead in ["\n\n", " "] {
+        assert_eq!(header(lead, "EDF_DataBlockID=1.Image.Psd;", 65_536), (3, 0));
+    }
+}
+
+/// 3 at 0 and 5 at 0 come after 6 and before 7, 8 and 9.
+#[test]
+fn where_the_pattern_is_judged() {
+    let faults = ["EDF_x=;", "EDF_x=;edf_X=;", &format!("EDF_{}=;", "k".repeat(61))];
+    for (body, code) in faults.into_iter().zip([9, 8, 7]) {
+        assert_eq!(opened(format!("\n{{{body}}}\n").as_bytes()), (code, 0));
+        assert_eq!(opened(format!("\t{{{body}}}\n").as_bytes()), (3, 0));
+        assert_eq!(opened(format!("\t{{{body}x}}\n").as_bytes()), (6, 1));
+        assert_eq!(opened(&[b"\n", &padded(body, 65_535)[..]].concat()), (code, 0));
+        assert_eq!(opened(&[b"\n", &padded(body, 65_536)[..]].concat()), (5, 0));
+        assert_eq!(opened(&[b"\n", &padded(format!("{body}x"), 65_536)[..]].concat()), (6, 1));
+    }
 }
 
 #[test]
@@ -88,8 +140,9 @@ fn nine_to_eleven() {
     assert_eq!(opened(&data("1.Image.Psd.1", "")), (9, 0));
     assert_eq!(opened(&data("1.Image.Psd", "a=;EDF_BinaryFileName=x;")), GOOD);
     assert_eq!(opened(&data("1.Image.Psd", "EDF_BinaryFileName=x;")), (10, 0));
-    assert_eq!(opened(&padded("", 1_024)), GOOD);
-    assert_eq!(opened(&padded("", 1_023)), (11, 0));
+    assert_eq!(opened(&padded("EDF_DataBlockID=1.Image.Psd;", 1_024)), GOOD);
+    assert_eq!(opened(&padded("EDF_DataBlockID=1.Image.Psd;", 1_023)), (11, 0));
+    assert_eq!(opened(&padded("Title=;EDF_DataBlockID=1.Image.Psd;EDF_HeaderSize=512;", 1_023)), GOOD);
     assert_eq!(opened(&data("1.Image.Psd", "EDF_HeaderSize=512;")), GOOD);
     assert_eq!(opened(&data("1.Image.Psd", "EDF_HeaderSize=511;")), (11, 0));
 }
@@ -103,6 +156,11 @@ fn twelve_to_fifteen() {
     assert_eq!(opened(&[data("1.Image.Psd", ""), data("+1.Image.Psd", "")].concat()), (13, 512));
     assert_eq!(opened(&plain("").repeat(256)), GOOD);
     assert_eq!(opened(&plain("").repeat(257)), (14, 131_072));
+    assert_eq!(opened(&[plain("").repeat(256), b" \n".to_vec()].concat()), GOOD);
+    assert_eq!(opened(&[plain("").repeat(256), b" \nx".to_vec()].concat()), (14, 131_074));
+    let many: Vec<u8> = (0..256).flat_map(|number| data(&format!("{number}.Image.Psd"), "")).collect();
+    assert_eq!(opened(&many), GOOD);
+    assert_eq!(opened(&[&many[..], b"\n"].concat()), (14, 131_072));
     assert_eq!(opened(&[general("1", ""), data("1.Image.Psd", "")].concat()), GOOD);
     assert_eq!(opened(&[general("2", ""), data("1.Image.Psd", "")].concat()), (15, 0));
 }
@@ -166,7 +224,7 @@ fn twenty_seven() {
     assert_eq!((read("1e-9223372036854775808"), read("1e-9223372036854775809")), ((27, 0), (18, 0)));
     assert_eq!(outcome(real(&plain("w=1e23;"), 0, b"v")), (16, 0));
     assert_eq!(outcome(real(&plain("w=1e23;"), 1, b"w")), (16, 0));
-    assert_eq!(outcome(real(&padded("w=1e23;", 511), 0, b"w")), (11, 0));
+    assert_eq!(outcome(real(&padded("EDF_DataBlockID=1.Image.Psd;w=1e23;", 511), 0, b"w")), (11, 0));
 }
 
 /// 256 lines as long as a small file can make them: 76,828 bytes, 28 for the first line and 300 for each block, are room for them.

@@ -1,6 +1,7 @@
 //! Mutations around checks 9 to 15: EDF_ keys, Size, lengths, identities and counts.
 
 use super::dress;
+use super::gaps;
 use super::plan::{BlockPlan, Plan, Statement};
 use super::random::Random;
 use super::shapes::any_block;
@@ -69,10 +70,15 @@ pub fn external(random: &mut Random, plan: &mut Plan) -> Option<()> {
     Some(())
 }
 
-/// 11: lengths beside a multiple.
+/// 11: lengths beside a multiple, some before data that is not there.
 pub fn length(random: &mut Random, plan: &mut Plan) -> Option<()> {
-    let shift = random.pick(&[1, 2, 256, 511, 512]);
-    any_block(random, plan)?.shift = shift;
+    let (key, shift) = (size_key(plan), random.pick(&[1, 2, 256, 511, 512]));
+    let short = random.percent(20);
+    let block = any_block(random, plan)?;
+    block.shift = shift;
+    if short {
+        block.set_at_top(key, b"99999999");
+    }
     Some(())
 }
 
@@ -103,7 +109,8 @@ pub fn header_size(random: &mut Random, plan: &mut Plan) -> Option<()> {
     Some(())
 }
 
-fn size_key(plan: &Plan) -> &'static [u8] {
+/// The key that says how long the data of a block is.
+pub fn size_key(plan: &Plan) -> &'static [u8] {
     if plan.kind == 1 { b"Size" } else { b"EDF_BinarySize" }
 }
 
@@ -147,12 +154,12 @@ pub fn many(random: &mut Random, plan: &mut Plan) -> Option<()> {
     let count = random.from_to(255, 257);
     if plan.general && random.percent(60) {
         many_after_general(random, plan, count);
-    } else if random.percent(3) {
-        many_alone(plan, count);
+    } else if random.percent(if plan.kind == 1 { 60 } else { 3 }) {
+        many_alone(random, plan, count);
     } else {
         return None;
     }
-    plan.after = random.pick(&[&b""[..], b"", b"x", b"{}\n"]).to_vec();
+    plan.after = random.pick(&[&b""[..], b"", b"x", b"{}\n", b" ", b"\n", b" \t\r\n\x0b\x0c", b" x", b"\n{}\n", b"\x0c\0", b"\x0e"]).to_vec();
     Some(())
 }
 
@@ -167,10 +174,18 @@ fn many_after_general(random: &mut Random, plan: &mut Plan, count: usize) {
     }
 }
 
-fn many_alone(plan: &mut Plan, count: usize) {
-    let kind = plan.kind;
+/// Blocks that are as short as may be; in kind 1 some with a gap before them.
+fn many_alone(random: &mut Random, plan: &mut Plan, count: usize) {
+    let spaced = random.percent(50);
     plan.general = false;
-    plan.blocks = (0..count).map(|number| small_block(512, Some(number).filter(|_| kind == 2))).collect();
+    plan.blocks = match plan.kind {
+        1 => (0..count).map(|_| small_block(1, None)).collect(),
+        _ => (0..count).map(|number| small_block(512, Some(number))).collect(),
+    };
+    for block in plan.blocks.iter_mut().filter(|_| plan.kind == 1 && spaced) {
+        let length = random.below(3);
+        block.lead = gaps::run(random, length);
+    }
 }
 
 fn small_block(boundary: usize, identity: Option<usize>) -> BlockPlan {

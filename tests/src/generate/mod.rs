@@ -5,6 +5,7 @@ pub mod dress;
 pub mod edf_keys;
 pub mod fields;
 pub mod flips;
+pub mod gaps;
 pub mod mutate;
 pub mod origins;
 pub mod pairs;

@@ -17,8 +17,8 @@ impl Statement {
     }
 }
 
-/// A block: header and data. `shift` bytes are added to a length that is a multiple;
-/// an exact length is kept where the statements leave room for it.
+/// A block: header and data. What leads the header is a start pattern in kind 2, and a gap in kind 1. It counts in all lengths here.
+/// `shift` bytes are added to a length that is a multiple; an exact length is kept where the statements leave room for it.
 #[derive(Clone, Debug)]
 pub struct BlockPlan {
     pub lead: Vec<u8>,

@@ -1,4 +1,4 @@
-//! Mutations around checks 3 to 8: patterns, stops, statements, lengths, repeated keys.
+//! Mutations around checks 4 to 8: stops, end patterns, statements, lengths, repeated keys.
 
 use super::dress;
 use super::plan::{BlockPlan, Plan, Statement};
@@ -21,13 +21,6 @@ pub fn any_statement<'a>(random: &mut Random, block: &'a mut BlockPlan) -> Optio
     block.statements.get_mut(number)
 }
 
-/// 3: start patterns.
-pub fn lead(random: &mut Random, plan: &mut Plan) -> Option<()> {
-    let lead = random.pick(&[&b" "[..], b"\r", b"\n\n", b"\n\r", b"\0", b"x", b"", b"\n", b"\r\n", b"\r\n\r\n"]);
-    any_block(random, plan)?.lead = lead.to_vec();
-    Some(())
-}
-
 /// 4: a stop, or a byte just not one.
 pub fn stop(random: &mut Random, plan: &mut Plan) -> Option<()> {
     let byte = random.pick(&[0, 1, 127, 128, 255, b'{', b'{', b'}', b'z']);
@@ -46,20 +39,6 @@ pub fn stop(random: &mut Random, plan: &mut Plan) -> Option<()> {
 pub fn close(random: &mut Random, plan: &mut Plan) -> Option<()> {
     let close = random.pick(&[&b"}"[..], b"}\r", b"} \n", b"}\r\r\n", b"}\n", b"}\r\n", b"}\n\n", b"", b"}\0", b"}{\n"]);
     any_block(random, plan)?.close = close.to_vec();
-    Some(())
-}
-
-/// 5 and 11: headers at both sides of 65,536 bytes.
-pub fn window(random: &mut Random, plan: &mut Plan) -> Option<()> {
-    if plan.blocks.len() > 5 || !random.percent(40) {
-        return None;
-    }
-    if plan.general && random.percent(60) {
-        plan.blocks[0].set_at_top(b"EDF_BlockBoundary", b"1");
-        plan.blocks.iter_mut().for_each(|block| block.boundary = 1);
-    }
-    let length = random.pick(&[65_535, 65_536, 65_536, 65_537, 65_537, 65_538, 66_048]);
-    any_block(random, plan)?.exact_length = Some(length);
     Some(())
 }
 

@@ -1,6 +1,7 @@
 //! Valid files of both kinds, built from the grammar.
 
 use super::dress;
+use super::gaps;
 use super::plan::{BlockPlan, Plan, Statement, OWN_LENGTH};
 use super::random::Random;
 use super::reals;
@@ -26,13 +27,21 @@ struct Shared {
 pub fn valid(random: &mut Random) -> Plan {
     let kind = if random.percent(30) { 1 } else { 2 };
     let general = kind == 2 && random.percent(50);
-    let small = general && random.percent(50);
-    let boundary = if small { random.pick(&[1, 2, 7, 16, 64, 100, 512, 1_024]) } else { 512 };
+    let boundary = match kind {
+        1 => any_length(random),
+        _ if general && random.percent(50) => random.pick(&[1, 2, 7, 16, 64, 100, 512, 1_024]),
+        _ => 512,
+    };
     let count = block_count(random, boundary);
     of_blocks(random, kind, general, boundary, count)
 }
 
-/// The same with so many data blocks; only a file with a general header may have another boundary than 512.
+/// Headers of kind 1 are multiples of this: most of them just as long as they need be.
+pub fn any_length(random: &mut Random) -> usize {
+    random.pick(&[1, 1, 1, 7, 512])
+}
+
+/// The same with so many data blocks; a file of kind 2 may have another boundary than 512 only with a general header.
 pub fn of_blocks(random: &mut Random, kind: u8, general: bool, boundary: usize, count: usize) -> Plan {
     let shared = shared(random, general);
     let mut blocks = Vec::new();
@@ -44,7 +53,8 @@ pub fn of_blocks(random: &mut Random, kind: u8, general: bool, boundary: usize, 
         let identity = identity(random, first + number);
         blocks.push(data_block(random, kind, boundary, &identity, &shared, count > 30));
     }
-    Plan { kind, general, blocks, after: vec![] }
+    let after = if kind == 1 { gaps::white(random) } else { vec![] };
+    Plan { kind, general, blocks, after }
 }
 
 fn shared(random: &mut Random, general: bool) -> Shared {
@@ -84,15 +94,19 @@ fn statement(random: &mut Random, key: &str, value: &str) -> Statement {
     Statement::new(&key, &value)
 }
 
-fn patterns(random: &mut Random, block: &mut BlockPlan) {
-    block.lead = random.pick(&[&b""[..], b"", b"", b"\n", b"\r\n"]).to_vec();
+/// What stands around a header's body: in kind 1 a gap before it, in kind 2 a start pattern.
+fn patterns(random: &mut Random, kind: u8, block: &mut BlockPlan) {
+    block.lead = match kind {
+        1 => gaps::white(random),
+        _ => random.pick(&[&b""[..], b"", b"", b"\n", b"\r\n"]).to_vec(),
+    };
     block.close = random.pick(&[&b"}\n"[..], b"}\n", b"}\r\n"]).to_vec();
     block.tail = random.pick(&[&b""[..], b"\r\n", b"\t \x0b\x0c"]).to_vec();
 }
 
 fn general_block(random: &mut Random, boundary: usize, count: usize, given: &[Field]) -> BlockPlan {
     let mut block = BlockPlan::new(boundary);
-    patterns(random, &mut block);
+    patterns(random, 2, &mut block);
     let blocks = if count == 1 && random.percent(30) { "Undetermined".to_string() } else { numeral(random, count as i64) };
     let version = random.pick(&["2.42", "1.00", "02.40", "10.10"]);
     let mut top = Vec::new();
@@ -138,7 +152,7 @@ fn array_in(random: &mut Random, shared: &Shared) -> Array {
 
 fn data_block(random: &mut Random, kind: u8, boundary: usize, identity: &str, shared: &Shared, tiny: bool) -> BlockPlan {
     let mut block = BlockPlan::new(boundary);
-    patterns(random, &mut block);
+    patterns(random, kind, &mut block);
     let own = array_in(random, shared);
     if !tiny {
         let more = random.pick(&[0, 0, 1, 7]);
@@ -249,12 +263,13 @@ fn dims(random: &mut Random, n: usize) -> Vec<usize> {
     dims
 }
 
-/// Pixels: random, small, extreme, or full of header patterns.
+/// Pixels: random, small, extreme, whitespace, or full of header patterns.
 fn data(random: &mut Random, length: usize) -> Vec<u8> {
-    match random.below(5) {
+    match random.below(6) {
         0 => (0..length).map(|i| b"}\n{\r"[i % 4]).collect(),
         1 => (0..length).map(|_| random.pick(&[0, 1, 127, 128, 254, 255])).collect(),
         2 => (0..length).map(|i| i as u8).collect(),
+        3 => gaps::run(random, length),
         _ => random.bytes(length),
     }
 }

@@ -1,10 +1,11 @@
 //! Opening a file into its table of blocks.
 
 use super::error::{demand, Error};
-use super::header::{find_header, Header};
+use super::header::{braced_header, patterned_header, with_pattern, Header};
 use super::memo::cut;
 use super::rules::{facts, role_of_first, role_of_other, Count, Facts, Role};
-use super::statement::{read_statements, Statement};
+use super::statement::{check_statements, read_statements, Statement};
+use super::white::first_solid;
 
 /// 1: "file over 1,073,741,824 bytes".
 pub const LONGEST_FILE: usize = 1_073_741_824;
@@ -46,9 +47,8 @@ pub fn open(file: &[u8], table_rows: usize) -> Result<Vec<Row>, Error> {
 /// The cut of a file, for calls on a block: "an opening refusal first (but 2)".
 pub fn cut_anew(file: &[u8]) -> Result<Vec<Block>, Error> {
     demand(file.len() <= LONGEST_FILE, 1, 0)?;
-    let mut blocks: Vec<Block> = Vec::new();
-    while blocks.is_empty() || end_of(&blocks) < file.len() {
-        let start = end_of(&blocks);
+    let mut blocks = vec![first_block(file)?];
+    while let Some(start) = next_start(file, &blocks) {
         demand(blocks.len() < MOST_BLOCKS, 14, start)?;
         blocks.push(next_block(file, start, &blocks)?);
     }
@@ -56,25 +56,45 @@ pub fn cut_anew(file: &[u8]) -> Result<Vec<Block>, Error> {
     Ok(blocks)
 }
 
-/// "end to end": the lengths of all blocks so far.
-fn end_of(blocks: &[Block]) -> usize {
-    blocks.iter().map(|block| block.header.length + block.extent).sum()
+/// Where the next block starts, none at the end of the file. "in kind 1, white may stand before the first header, between blocks and after
+/// the last, in no row".
+fn next_start(file: &[u8], before: &[Block]) -> Option<usize> {
+    let end = before.last().map_or(0, |block| block.header.start + block.header.length + block.extent);
+    let start = match before.first().map(|first| first.facts.role) {
+        Some(Role::General | Role::Data) => end,
+        Some(Role::Plain) | None => first_solid(file, end),
+    };
+    Some(start).filter(|&start| start < file.len())
 }
 
-/// The block at `start`, checked "block by block in the order below".
-fn next_block(file: &[u8], start: usize, before: &[Block]) -> Result<Block, Error> {
-    let header = find_header(file, start)?;
+/// "Until the first header has passed check 6 it is judged as kind 1".
+fn first_block(file: &[u8]) -> Result<Block, Error> {
+    let start = next_start(file, &[]).unwrap_or(file.len());
+    let header = braced_header(file, start)?;
     let statements = read_statements(file, &header)?;
-    let role = match before.first() {
-        None => role_of_first(&statements),
-        Some(first) => role_of_other(first.facts.role),
-    };
+    let role = role_of_first(&statements);
+    let header = if role == Role::Plain { header } else { with_pattern(file, header)? };
+    judged(file, header, statements, role, &[])
+}
+
+/// A later block at `start`: a header of kind 1 starts with its brace, one of kind 2 with its pattern.
+fn next_block(file: &[u8], start: usize, before: &[Block]) -> Result<Block, Error> {
+    let role = role_of_other(before[0].facts.role);
+    let header = if role == Role::Plain { braced_header(file, start)? } else { patterned_header(file, start)? };
+    let statements = read_statements(file, &header)?;
+    judged(file, header, statements, role, before)
+}
+
+/// A block whose header passed check 6, judged "in the order below".
+fn judged(file: &[u8], header: Header, statements: Vec<Statement>, role: Role, before: &[Block]) -> Result<Block, Error> {
+    let start = header.start;
+    check_statements(file, &header, &statements)?;
     let Some(facts) = facts(file, role, &statements) else {
         return Err(Error { code: 9, position: start });
     };
     demand(!facts.external, 10, start)?;
     let boundary = before.first().map_or(facts.boundary, |first| first.facts.boundary);
-    demand(length_kept(&header, &facts, boundary.unwrap_or(BOUNDARY)), 11, start)?;
+    demand(role == Role::Plain || length_kept(&header, &facts, boundary.unwrap_or(BOUNDARY)), 11, start)?;
     let room = (file.len() - start - header.length) as i128;
     demand(i128::from(facts.extent) <= room, 12, start)?;
     demand(!identity_used(before, &facts), 13, start)?;
@@ -82,7 +102,7 @@ fn next_block(file: &[u8], start: usize, before: &[Block]) -> Result<Block, Erro
     Ok(Block { header, statements, facts, extent })
 }
 
-/// 11: "length not a multiple, or not EDF_HeaderSize".
+/// 11: "length not a multiple, or not EDF_HeaderSize"; "11 in kind 2 only".
 fn length_kept(header: &Header, facts: &Facts, boundary: i64) -> bool {
     let length = header.length as i128;
     let as_said = facts.header_size.map_or(length, i128::from);
@@ -148,17 +168,49 @@ mod tests {
     fn rows_of_kind_1() {
         let file = [padded("Size=2;EDF_BinarySize=x;", 512), b"ab".to_vec(), padded("", 512)].concat();
         let rows = open(&file, 256).unwrap();
-        let three: Vec<_> = rows.iter().map(|r| (r.start, r.header_length, r.data_length)).collect();
-        assert_eq!(three, [(0, 512, 2), (514, 512, 0)]);
+        assert_eq!(places(&file), [(0, 512, 2), (514, 512, 0)]);
         assert!(rows.iter().all(|r| (r.kind, r.sequence, r.instance, r.memory) == (1, 0, 0, 0)));
+    }
+
+    /// The first three numbers of each row.
+    fn places(file: &[u8]) -> Vec<(usize, usize, usize)> {
+        let rows = open(file, 256).unwrap();
+        rows.iter().map(|row| (row.start, row.header_length, row.data_length)).collect()
     }
 
     #[test]
     fn header_512_accepted_and_511_refused() {
+        assert_eq!(refusal(&padded("EDF_DataBlockID=1.Image.Psd;", 512)), (0, 1));
+        assert_eq!(refusal(&padded("EDF_DataBlockID=1.Image.Psd;", 511)), (11, 0));
         assert_eq!(refusal(&padded("", 512)), (0, 1));
-        assert_eq!(refusal(&padded("", 511)), (11, 0));
-        assert_eq!(refusal(&padded("", 65_536)), (0, 1));
-        assert_eq!(refusal(&padded("", 66_048)), (5, 0));
+        assert_eq!(refusal(&padded("", 511)), (0, 1));
+        assert_eq!(refusal(&padded("EDF_DataBlockID=1.Image.Psd;", 65_536)), (0, 1));
+        assert_eq!(refusal(&padded("EDF_DataBlockID=1.Image.Psd;", 66_048)), (5, 0));
+    }
+
+    #[test]
+    fn white_in_kind_1_is_in_no_row() {
+        assert_eq!(places(b" \t\n\r\x0b\x0c{}\n"), [(6, 3, 0)]);
+        assert_eq!(places(b"{}\n \t\n\r\x0b\x0c{}\n"), [(0, 3, 0), (9, 3, 0)]);
+        assert_eq!(places(b"{}\n \t\n\r\x0b\x0c"), [(0, 3, 0)]);
+        assert_eq!(places(b"{Size=2;}\n   {}\n"), [(0, 10, 2), (13, 3, 0)]);
+        assert_eq!(refusal(b"{}\n\0{}\n"), (3, 3));
+        assert_eq!(refusal(b"{}\n x"), (3, 4));
+        assert_eq!(refusal(b" \n "), (3, 3));
+        assert_eq!(refusal(b"\r\n{Size=x;}\n"), (9, 2));
+    }
+
+    #[test]
+    fn white_in_kind_2() {
+        let file = |lead: &str| [lead.as_bytes(), &padded("EDF_DataBlockID=1.Image.Psd;", 512 - lead.len())].concat();
+        for (lead, expected) in [("", (0, 1)), ("\n", (0, 1)), ("\r\n", (0, 1)), (" ", (3, 0)), ("\r", (3, 0)), ("\n\n", (3, 0))] {
+            assert_eq!(refusal(&file(lead)), expected, "{lead:?}");
+        }
+        assert_eq!(refusal(&[&file("")[..], b"\n"].concat()), (3, 512));
+        assert_eq!(refusal(b" {EDF_x=;edf_X=;}\n"), (3, 0));
+        assert_eq!(refusal(b" {EDF_x=;y;}\n"), (6, 1));
+        assert_eq!(refusal(b"\r\n{EDF_x=;}\n"), (9, 0));
+        assert_eq!(refusal(b"\n{EDF_x=;edf_X=;}\n"), (8, 0));
     }
 
     #[test]
@@ -212,10 +264,12 @@ mod tests {
 
     #[test]
     fn bytes_left_after_256_blocks() {
-        let mut file = padded("", 512).repeat(256);
+        let mut file = b"{}\n".repeat(256);
+        assert_eq!(refusal(&file), (0, 256));
+        file.extend(b" \n");
         assert_eq!(refusal(&file), (0, 256));
         file.push(b'x');
-        assert_eq!(refusal(&file), (14, 131_072));
+        assert_eq!(refusal(&file), (14, 770));
     }
 
     #[test]
@@ -223,6 +277,9 @@ mod tests {
         let mut file = general("1", 512, "");
         (0..256).for_each(|i| file.extend(data_block(&format!("{i}.Image.Psd"), 0)));
         assert_eq!(refusal(&file[..512 * 256]), (15, 0));
+        assert_eq!(refusal(&file), (14, 131_072));
+        file.truncate(512 * 256);
+        file.push(b'\n');
         assert_eq!(refusal(&file), (14, 131_072));
     }
 

@@ -150,19 +150,19 @@ fn is_version(value: &[u8]) -> bool {
 
 #[cfg(test)]
 mod tests {
-    use super::super::header::find_header;
+    use super::super::header::braced_header;
     use super::super::statement::read_statements;
     use super::*;
 
     fn facts_of(role: Role, body: &str) -> Option<Facts> {
         let file = format!("{{{body}}}\n").into_bytes();
-        let statements = read_statements(&file, &find_header(&file, 0).unwrap()).unwrap();
+        let statements = read_statements(&file, &braced_header(&file, 0).unwrap()).unwrap();
         facts(&file, role, &statements)
     }
 
     fn role(body: &str) -> Role {
         let file = format!("{{{body}}}\n").into_bytes();
-        role_of_first(&read_statements(&file, &find_header(&file, 0).unwrap()).unwrap())
+        role_of_first(&read_statements(&file, &braced_header(&file, 0).unwrap()).unwrap())
     }
 
     #[test]

@@ -21,14 +21,17 @@ pub struct Statement {
     pub value: Span,
 }
 
-/// The statements of a header, or refusal 6, 7 or 8; "each check for the whole header before the next".
+/// The statements of a header, or refusal 6; "each check for the whole header before the next".
 pub fn read_statements(file: &[u8], header: &Header) -> Result<Vec<Statement>, Error> {
     let pieces = pieces(file, header);
     demand(pieces_kept(file, &pieces), 6, header.start)?;
-    let statements: Vec<Statement> = pieces.iter().filter_map(|piece| statement(file, piece)).collect();
+    Ok(pieces.iter().filter_map(|piece| statement(file, piece)).collect())
+}
+
+/// Refusals 7 and 8, which come once the kind is known.
+pub fn check_statements(file: &[u8], header: &Header, statements: &[Statement]) -> Result<(), Error> {
     demand(statements.iter().all(|s| lengths_kept(file, s)), 7, header.start)?;
-    demand(!any_key_twice(&statements), 8, header.start)?;
-    Ok(statements)
+    demand(!any_key_twice(statements), 8, header.start)
 }
 
 /// A piece of the body between two `;`, the last one being what stands after the last `;`.
@@ -118,13 +121,14 @@ pub fn value_of<'a>(file: &'a [u8], statement: &Statement) -> &'a [u8] {
 
 #[cfg(test)]
 mod tests {
-    use super::super::header::find_header;
+    use super::super::header::{braced_header, patterned_header};
     use super::*;
 
     fn read(body: &[u8]) -> Result<Vec<(Vec<u8>, Vec<u8>)>, u8> {
         let file = [b"{", body, b"}\n"].concat();
-        let header = find_header(&file, 0).unwrap();
+        let header = braced_header(&file, 0).unwrap();
         let statements = read_statements(&file, &header).map_err(|e| e.code)?;
+        check_statements(&file, &header, &statements).map_err(|e| e.code)?;
         Ok(statements.iter().map(|s| (s.key.clone(), value_of(&file, s).to_vec())).collect())
     }
 
@@ -135,7 +139,7 @@ mod tests {
     #[test]
     fn places_of_a_reading() {
         let file = b"\n{\r\n A = b ;c=;}\n";
-        let statements = read_statements(file, &find_header(file, 0).unwrap()).unwrap();
+        let statements = read_statements(file, &patterned_header(file, 0).unwrap()).unwrap();
         let places: Vec<_> = statements.iter().map(|s| (s.first, s.equals, s.semicolon)).collect();
         assert_eq!(places, [(2, 7, 11), (12, 13, 14)]);
         assert_eq!(statements[0].value, Span { start: 9, length: 1 });
@@ -170,7 +174,7 @@ mod tests {
 
     #[test]
     fn empty_values_have_a_place() {
-        let places = |file: &[u8]| read_statements(file, &find_header(file, 0).unwrap()).unwrap()[0].value;
+        let places = |file: &[u8]| read_statements(file, &patterned_header(file, 0).unwrap()).unwrap()[0].value;
         assert_eq!(places(b"{a= \t;}\n"), Span { start: 5, length: 0 });
         assert_eq!(places(b"{a= \" ;}\n"), Span { start: 5, length: 0 });
         assert_eq!(places(b"{a= \"\" ;}\n"), Span { start: 5, length: 0 });

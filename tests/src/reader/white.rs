@@ -1,4 +1,4 @@
-//! White bytes: stripping and trimming.
+//! White bytes: stripping, trimming and skipping.
 
 /// "White is space, tab, LF, CR, VT, FF."
 pub const WHITE: [u8; 6] = [b' ', b'\t', b'\n', b'\r', 0x0b, 0x0c];
@@ -23,6 +23,11 @@ pub fn trimmed(bytes: &[u8]) -> Option<(usize, usize)> {
     Some((*solid.first()?, *solid.last()? + 1))
 }
 
+/// The first offset from `from` on of a byte that is not white; the length where there is none.
+pub fn first_solid(bytes: &[u8], from: usize) -> usize {
+    (from..bytes.len()).find(|&i| !is_white(bytes[i])).unwrap_or(bytes.len())
+}
+
 #[cfg(test)]
 mod tests {
     use super::*;
@@ -45,5 +50,15 @@ mod tests {
         assert_eq!(trimmed(b"ab"), Some((0, 2)));
         assert_eq!(trimmed(b" \r\n"), None);
         assert_eq!(trimmed(b""), None);
+    }
+
+    #[test]
+    fn skipping_white() {
+        assert_eq!(first_solid(b" \t\n\r\x0b\x0c{ {", 0), 6);
+        assert_eq!(first_solid(b"{  {", 0), 0);
+        assert_eq!(first_solid(b"{  {", 1), 3);
+        assert_eq!(first_solid(b"{ \0 {", 1), 2);
+        assert_eq!(first_solid(b"{  ", 1), 3);
+        assert_eq!(first_solid(b"", 0), 0);
     }
 }

@@ -37,6 +37,20 @@ fn more_blocks_are_refused_where_the_257th_would_start() {
     }
 }
 
+/// Whitespace is no block: 256 blocks with whitespace at the seam and at the ends are one file, and 14 stands behind it.
+#[test]
+fn whitespace_at_the_seam_of_256_blocks() {
+    let spaced = |count: usize| [&b" \n"[..], &blocks(count), b"\t\x0b"].concat();
+    for (first, second) in [(255, 1), (1, 255), (128, 128)] {
+        assert!(matches!(concatenated(library, &spaced(first), &spaced(second)), Ok(Some(_))), "{first} and {second}");
+    }
+    for (first, second) in [(256, 1), (128, 129)] {
+        let (one, other) = (spaced(first), spaced(second));
+        let position = one.len() + rows(&other)[256 - first].start;
+        assert_eq!(open(&[one, other].concat()), Answer::Failed { code: 14, position }, "{first} and {second}");
+    }
+}
+
 /// A header that says the length of the data, and four pixels.
 fn header(data: usize) -> Vec<u8> {
     plain(format!("DataType=UnsignedByte;Dim_1=4;Size={data};"))

@@ -51,7 +51,8 @@ fn kind_2_and_then_kind_1_is_refused() {
 #[test]
 fn kind_1_and_then_kind_2_is_of_kind_1() {
     let one = plain("Title=t;");
-    let row = |start| Row { start, header_length: 512, data_length: 0, kind: 1, sequence: 0, instance: 0, memory: 0 };
+    let of_length = |start, header_length| Row { start, header_length, data_length: 0, kind: 1, sequence: 0, instance: 0, memory: 0 };
+    let row = |start| of_length(start, 512);
     for other in [data("5.Image.Error.3", ""), general("1", ""), data("1.Image.Psd", "EDF_HeaderSize=512;")] {
         accepted([&one, &other], vec![row(0), row(512)]);
     }
@@ -61,8 +62,27 @@ fn kind_1_and_then_kind_2_is_of_kind_1() {
     assert_eq!(rows(&with_data("1.Image.Psd"))[0].data_length, 1);
     refused([&one, &with_data("1.Image.Psd")], 3, 1_024);
     refused([&one, &data("1.Image.Psd", "Size=junk;")], 9, 512);
-    refused([&one, &of_boundary(64)], 11, 512);
+    accepted([&one, &of_boundary(64)], vec![row(0), of_length(512, 128), of_length(640, 64)]);
 }
+
+/// Whitespace at the seam: in kind 1 it is in no row, whatever comes next. In kind 2 only a start pattern may stand there.
+#[test]
+fn whitespace_at_a_seam() {
+    let row = |start, data_length| Row { start, header_length: 512, data_length, kind: 1, sequence: 0, instance: 0, memory: 0 };
+    let (one, two) = (plain("Title=t;"), data("1.Image.Psd", ""));
+    for gap in [&b" "[..], b"\t", b"\n", b"\r\n", b"\n\n", b"\r", b"\x0b\x0c"] {
+        let seam = 512 + gap.len();
+        accepted([&one, &[gap, &two].concat()], vec![row(0, 0), row(seam, 0)]);
+        accepted([&[&one, gap].concat(), &[&two, gap].concat()], vec![row(0, 0), row(seam, 0)]);
+        accepted([&one, &[&data("1.Image.Psd", "Size=1;")[..], b" ", gap].concat()], vec![row(0, 0), row(512, 1)]);
+        refused([&[&two, gap].concat(), &one], if STARTS.contains(&gap) { 9 } else { 3 }, 512);
+        refused([&[&two, gap].concat(), b""], 3, 512);
+        refused([&[&two, gap].concat(), &[gap, &data("2.Image.Psd", "")].concat()], 3, 512);
+    }
+}
+
+/// What may stand before the brace of a header of kind 2.
+const STARTS: [&[u8]; 2] = [b"\n", b"\r\n"];
 
 /// A general header is a first header, and it counts the blocks beside it.
 #[test]

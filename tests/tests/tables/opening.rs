@@ -10,22 +10,28 @@ fn opens(file: &[u8], expected: &str) {
 }
 
 const ONE: &str = "0 512 0 1 0 0 0";
+const PSD_ONE: &str = "0 512 0 1 1 1 1";
 
 /// A header's first and last bytes, its length, how much data follows, and what opening gives.
-const FRAMES: [(&[u8], &[u8], usize, usize, &str); 30] = [
+const FRAMES: [(&[u8], &[u8], usize, usize, &str); 35] = [
     (b"{", b"}\n", 512, 0, ONE),
-    (b"{", b"}\n", 513, 0, "refused 11 0"),
+    (b"{", b"}\n", 513, 0, "0 513 0 1 0 0 0"),
+    (b"{EDF_DataBlockID=1.Image.Psd;", b"}\n", 512, 0, PSD_ONE),
+    (b"{EDF_DataBlockID=1.Image.Psd;", b"}\n", 513, 0, "refused 11 0"),
     (b"{", b"}\n", 1_024, 0, "0 1024 0 1 0 0 0"),
     (b"{", b"}\n", 65_536, 0, "0 65536 0 1 0 0 0"),
     (b"{", b"}\n", 65_537, 0, "refused 5 0"),
     (b"{", b"}\r\n", 65_536, 0, "0 65536 0 1 0 0 0"),
     (b"{", b"}\r\n", 65_537, 0, "refused 5 0"),
-    (b"\n{", b"}\n", 512, 0, ONE),
-    (b"\r\n{", b"}\n", 512, 0, ONE),
-    (b"\r{", b"}\n", 512, 0, "refused 3 0"),
-    (b"\n\n{", b"}\n", 512, 0, "refused 3 0"),
+    (b"\n{EDF_DataBlockID=1.Image.Psd;", b"}\n", 512, 0, PSD_ONE),
+    (b"\r\n{EDF_DataBlockID=1.Image.Psd;", b"}\n", 512, 0, PSD_ONE),
+    (b"\r{EDF_DataBlockID=1.Image.Psd;", b"}\n", 512, 0, "refused 3 0"),
+    (b"\n{", b"}\n", 512, 0, "1 511 0 1 0 0 0"),
+    (b"\r\n{", b"}\n", 512, 0, "2 510 0 1 0 0 0"),
+    (b"\r{", b"}\n", 512, 0, "1 511 0 1 0 0 0"),
     (b"x{", b"}\n", 512, 0, "refused 3 0"),
-    (b"{", b"}\n", 512, 1, "refused 3 512"),
+    (b"{", b"}\n", 512, 1, ONE),
+    (b"{EDF_DataBlockID=1.Image.Psd;", b"}\n", 512, 1, "refused 3 512"),
     (b"{", b"}\r\n", 512, 0, ONE),
     (b"{", b"}\r", 512, 0, "refused 5 0"),
     (b"{", b"}\rx", 512, 0, "refused 5 0"),
@@ -63,12 +69,13 @@ fn frames() {
 /// After a block of 512 bytes the limits and the places are those of the second header.
 #[test]
 fn frames_of_a_later_block() {
-    let table: [(&[u8], &[u8], usize, &str); 5] = [
+    let table: [(&[u8], &[u8], usize, &str); 6] = [
         (b"{", b"}\n", 65_536, "0 512 0 1 0 0 0 | 512 65536 0 1 0 0 0"),
         (b"{", b"}\n", 65_537, "refused 5 512"),
         (b"{", b"}x\n", 512, "refused 5 512"),
         (b"{a={1};", b"}\n", 512, "refused 4 515"),
-        (b"\r{", b"}\n", 512, "refused 3 512"),
+        (b"\r{", b"}\n", 512, "0 512 0 1 0 0 0 | 513 511 0 1 0 0 0"),
+        (b"x{", b"}\n", 512, "refused 3 512"),
     ];
     for (first, last, length, expected) in table {
         opens(&[plain(""), framed(first, last, length, 0)].concat(), expected);

@@ -1,35 +1,20 @@
 //! Reals: 02, No. 2. `reals.tsv` has values with their answers in every bit; the other tables are worked out by hand.
 
+use crate::columns::{lines, unescaped};
 use edf_tests::answer::{Answer, Call};
 use edf_tests::both::both;
-use edf_tests::files::{array, data, general, padded};
+use edf_tests::files::{array, data, general};
 use edf_tests::told::expect;
 
-/// Lines of value, `ok` or `error`, unit or code, the float's bits, and the float in decimal. The table is made for files `{w=` value `;}` LF;
-/// headers are multiples of 512 here, so spaces stand before the `}`.
+/// Lines of value, `ok` or `error`, unit or code, the float's bits, and the float in decimal.
 const TABLE: &str = include_str!("reals.tsv");
 
 fn file(value: &[u8]) -> Vec<u8> {
-    padded([b"w=", value, b";"].concat(), 4_096)
+    [b"{w=", value, b";}\n"].concat()
 }
 
 fn call() -> Call {
     Call::Real { block: 0, key: b"w".to_vec() }
-}
-
-/// The bytes of a column: `\xHH` is a byte, and `\-` alone is none at all.
-fn unescaped(column: &str) -> Vec<u8> {
-    if column == "\\-" {
-        return vec![];
-    }
-    let mut pieces = column.split("\\x");
-    let mut bytes = pieces.next().unwrap().as_bytes().to_vec();
-    for piece in pieces {
-        let (byte, rest) = piece.split_at(2);
-        bytes.push(u8::from_str_radix(byte, 16).unwrap());
-        bytes.extend(rest.as_bytes());
-    }
-    bytes
 }
 
 /// The answer of a line.
@@ -47,19 +32,12 @@ fn answer_of(line: &str) -> Answer {
 
 #[test]
 fn every_bit_of_the_table() {
-    let lines: Vec<&str> = TABLE.lines().filter(|line| !line.starts_with("# ")).collect();
+    let lines = lines(TABLE);
     assert_eq!(lines.len(), 127);
     for line in lines {
         let value = unescaped(line.split('\t').next().unwrap());
         assert_eq!(both(&file(&value), &call()), answer_of(line), "{line}");
     }
-}
-
-#[test]
-fn columns_of_bytes() {
-    assert_eq!(unescaped("\\-"), b"");
-    assert_eq!(unescaped("-"), b"-");
-    assert_eq!(unescaped("1\\x0d\\x0a5"), b"1\r\n5");
 }
 
 fn expect_all(table: &[(&str, &str)]) {

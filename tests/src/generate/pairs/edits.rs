@@ -2,12 +2,11 @@
 
 use super::fit::Shape;
 use crate::generate::dress;
+use crate::generate::mutate::Mutation;
 use crate::generate::plan::{plain, BlockPlan, Plan, Statement};
 use crate::generate::random::Random;
 use crate::generate::words::{FIELDS, KEYS, KNOWN_WORDS, REAL_KEYS, TYPES, UNKNOWN_WORDS};
 use crate::generate::{fields, origins, reals, shapes};
-
-type Mutation = fn(&mut Random, &mut Plan) -> Option<()>;
 
 /// Mutations of the fields that an array is described by.
 const OF_FIELDS: [Mutation; 9] = [

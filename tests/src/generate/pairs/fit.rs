@@ -1,5 +1,6 @@
 //! Blocks of a length that is given: what stands before a block is replaced, and the block stays where it is.
 
+use crate::generate::gaps;
 use crate::generate::plan::{BlockPlan, Plan};
 use crate::generate::random::Random;
 use crate::generate::valid;
@@ -22,6 +23,11 @@ impl Shape {
     /// The key that says how long the data is.
     fn size_key(self) -> &'static [u8] {
         if self.kind == 1 { b"Size" } else { b"EDF_BinarySize" }
+    }
+
+    /// A gap: in kind 1 whitespace, in kind 2 none.
+    pub fn gap(self, random: &mut Random) -> Vec<u8> {
+        if self.kind == 1 { gaps::white(random) } else { vec![] }
     }
 
     /// Gives the block so many bytes of data, new ones if it has another number, and says their number in the header.

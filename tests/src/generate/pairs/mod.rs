@@ -1,5 +1,5 @@
-//! Pairs of files that share a block: the rest of the file is edited around it, the block is moved, or it is alone. Files to be laid end to
-//! end, and files that differ in the general header.
+//! Pairs of files that share a block: the rest of the file and its gaps are edited around it, the block is moved, or it is alone. Files to be
+//! laid end to end, and files that differ in the general header.
 
 pub mod ask;
 pub mod edits;
@@ -71,15 +71,21 @@ fn block_count(random: &mut Random, least: usize) -> usize {
 /// A file of either kind, with a general header or none, and at least two blocks.
 fn any_plan(random: &mut Random) -> Plan {
     let (kind, general) = random.pick(&[(1, false), (1, false), (2, false), (2, true), (2, true)]);
-    let boundary = if general { random.pick(&[512, 512, 1, 7, 64, 100, 1_024]) } else { 512 };
+    let boundary = if general { random.pick(&[512, 512, 1, 7, 64, 100, 1_024]) } else { boundary_of(random, kind) };
     let count = block_count(random, if general { 1 } else { 2 });
     plan(random, kind, general, boundary, count)
+}
+
+/// What headers are multiples of, in a file without a general header.
+fn boundary_of(random: &mut Random, kind: u8) -> usize {
+    if kind == 1 { valid::any_length(random) } else { 512 }
 }
 
 /// A file of either kind without a general header.
 fn plan_without_general(random: &mut Random) -> Plan {
     let (kind, count) = (random.pick(&[1, 2]), block_count(random, 1));
-    plan(random, kind, false, 512, count)
+    let boundary = boundary_of(random, kind);
+    plan(random, kind, false, boundary, count)
 }
 
 /// A file with a general header and at least two data blocks.
@@ -99,7 +105,8 @@ fn plan(random: &mut Random, kind: u8, general: bool, boundary: usize, count: us
     plan
 }
 
-/// EDF_ keys at the front of a block of kind 1, where they are ignored; with the first two a block alone would be of kind 2.
+/// EDF_ keys at the front of a block of kind 1, where they are ignored; with the first two a block alone would be of kind 2, if its length is a
+/// multiple of 512 as well.
 fn edf_key_first(random: &mut Random, block: &mut BlockPlan) {
     let size = block.data.len().to_string();
     let good = [("EDF_BinarySize", &size[..]), ("EDF_DataBlockID", "1.Image.Psd")];
@@ -107,17 +114,21 @@ fn edf_key_first(random: &mut Random, block: &mut BlockPlan) {
     if random.percent(25) {
         keys.iter().for_each(|(key, _)| block.remove(key.as_bytes()));
         keys.iter().for_each(|(key, value)| block.statements.insert(0, Statement::new(key.as_bytes(), value.as_bytes())));
+        if random.percent(85) {
+            (block.lead, block.boundary) = (vec![], 512);
+        }
     }
 }
 
-/// One block of a file, and its bytes alone.
+/// One block of a file, and its bytes alone; in kind 1 sometimes with whitespace around them.
 fn alone(random: &mut Random) -> Pair {
     let mut plan = plan_without_general(random);
     let block = random.below(plan.blocks.len());
     field_of(random, &mut plan, block, 40);
     let one = plan.render();
     let row = opened(SECOND, &one).and_then(|rows| rows.get(block).copied());
-    let other = row.and_then(|row| bytes_of(&one, &row).map(<[u8]>::to_vec)).unwrap_or_default();
+    let bytes = row.and_then(|row| bytes_of(&one, &row)).unwrap_or_default();
+    let other = if random.percent(60) { bytes.to_vec() } else { [&Shape::of(&plan).gap(random), bytes, &Shape::of(&plan).gap(random)].concat() };
     Pair { one, other, block, other_block: 0 }
 }
 
@@ -135,7 +146,10 @@ pub fn two_of_kind_1(seed: u64, number: usize) -> [Vec<u8>; 2] {
         0 => random.pick(&[[255, 1], [1, 255], [128, 128], [200, 56]]),
         _ => [random.from_to(1, 3), random.from_to(1, 3)],
     };
-    let mut plans = counts.map(|count| plan(random, 1, false, 512, count));
+    let mut plans = counts.map(|count| {
+        let boundary = boundary_of(random, 1);
+        plan(random, 1, false, boundary, count)
+    });
     let (file, length) = (random.below(2), random.pick(&[65_000, 65_536, 70_000]));
     let block = random.below(plans[file].blocks.len());
     field_of(random, &mut plans[file], block, 40);

@@ -3,15 +3,20 @@
 use super::edits;
 use super::fit::Shape;
 use crate::independence::Pair;
+use crate::generate::gaps;
 use crate::generate::plan::{BlockPlan, Plan};
 use crate::generate::random::Random;
 
-/// A file around a block: the general block, if it stands before, and the blocks before and after.
+/// A file around a block: the general block, if it stands before, the blocks before, in kind 1 the gap between them and the block, the block's
+/// own bytes, the blocks after, and the gap after the last.
 struct Rest<'a> {
     shape: Shape,
     general: Option<&'a BlockPlan>,
     before: &'a [BlockPlan],
+    gap: &'a [u8],
+    own: Vec<u8>,
     after: &'a [BlockPlan],
+    end: &'a [u8],
     /// A general header says how many blocks there are.
     counted: bool,
 }
@@ -37,7 +42,9 @@ fn rest_of(plan: &Plan, number: usize) -> Rest<'_> {
     let general = plan.blocks.first().filter(|_| plan.general && number > 0);
     let first = usize::from(general.is_some());
     let (before, after) = (&plan.blocks[first..number], &plan.blocks[number + 1..]);
-    Rest { shape: Shape::of(plan), general, before, after, counted: plan.general }
+    let (block, shape) = (&plan.blocks[number], Shape::of(plan));
+    let gap = if shape.kind == 1 { &block.lead[..] } else { &[] };
+    Rest { shape, general, before, gap, own: block.render().split_off(gap.len()), after, end: &plan.after, counted: plan.general }
 }
 
 /// A block that stays where it is, in a file and in the same file edited before it, after it, or on both sides.
@@ -49,11 +56,11 @@ pub fn edited(random: &mut Random, plan: &Plan) -> Pair {
         sides => sides,
     };
     let general = rest.general_block(random, edit_before);
-    let before = if edit_before { rest.as_long_before(random) } else { rendered(rest.before) };
+    let before = if edit_before { rest.edited_before(random) } else { rest.same_before() };
     let same_count = before.1 == rest.before.len();
-    let after = if edit_after || !same_count { rest.edited_after(random, before.1) } else { rendered(rest.after) };
+    let after = if edit_after || !same_count { rest.edited_after(random, before.1) } else { rest.same_after() };
     let other_block = usize::from(rest.general.is_some()) + before.1;
-    let other = [general, before.0, plan.blocks[block].render(), after.0].concat();
+    let other = [general, before.0, rest.own, after].concat();
     Pair { one: plan.render(), other, block, other_block }
 }
 
@@ -62,8 +69,9 @@ pub fn moved(random: &mut Random, plan: &Plan) -> Pair {
     let (plan, block) = with_block(random, plan);
     let rest = rest_of(&plan, block);
     let before = rest.any_before(random);
-    let after = if random.percent(50) { rendered(rest.after) } else { rest.edited_after(random, before.1) };
-    let other = [before.0, plan.blocks[block].render(), after.0].concat();
+    let gap = if random.percent(50) { rest.gap.to_vec() } else { rest.shape.gap(random) };
+    let after = if random.percent(50) { rest.same_after() } else { rest.edited_after(random, before.1) };
+    let other = [before.0, gap, rest.own, after].concat();
     Pair { one: plan.render(), other, block, other_block: before.1 }
 }
 
@@ -78,9 +86,41 @@ pub fn moved_behind_general(random: &mut Random, plan: &Plan) -> Pair {
 }
 
 impl Rest<'_> {
-    /// Whether there is something before the block that may be edited: a block, or data of the general one.
+    /// Whether there is something before the block that may be edited: a block, a gap, or data of the general block.
     fn can_before(&self) -> bool {
-        !self.before.is_empty() || self.general.is_some_and(|general| !general.data.is_empty())
+        !self.before.is_empty() || !self.gap.is_empty() || self.general.is_some_and(|general| !general.data.is_empty())
+    }
+
+    /// What stands before the block, as it is.
+    fn same_before(&self) -> Blocks {
+        let (blocks, count) = rendered(self.before);
+        ([&blocks, self.gap].concat(), count)
+    }
+
+    /// What stands after the block, as it is.
+    fn same_after(&self) -> Vec<u8> {
+        [&rendered(self.after).0, self.end].concat()
+    }
+
+    /// Other bytes before the block, as many: other blocks, or another gap.
+    fn edited_before(&self, random: &mut Random) -> Blocks {
+        if self.shape.kind == 1 && (self.before.is_empty() || random.percent(40)) {
+            return self.another_gap(random);
+        }
+        let (blocks, count) = self.as_long_before(random);
+        ([&blocks, self.gap].concat(), count)
+    }
+
+    /// Another gap before the block: of the same length, with no block before it, or of another length where other blocks make up for it.
+    fn another_gap(&self, random: &mut Random) -> Blocks {
+        let (blocks, count) = rendered(self.before);
+        let total = blocks.len() + self.gap.len();
+        let (length, fewer) = (random.below(total.min(12) + 1), random.from_to(1, count.max(1)));
+        match (random.below(3), self.shape.run(random, fewer, total - length)) {
+            (0, _) => (gaps::run(random, total), 0),
+            (1, Some(others)) => ([others, gaps::run(random, length)].concat(), fewer),
+            _ => ([blocks, gaps::run(random, self.gap.len())].concat(), count),
+        }
     }
 
     /// Whether there may be other blocks after it.
@@ -135,8 +175,8 @@ impl Rest<'_> {
         Some((self.shape.run(random, count, total)?, count))
     }
 
-    /// The blocks after, edited freely, some taken away, some new. With a general header there are as many as it says.
-    fn edited_after(&self, random: &mut Random, before: usize) -> Blocks {
+    /// The blocks after, edited freely, some taken away, some new, and another gap. With a general header there are as many as it says.
+    fn edited_after(&self, random: &mut Random, before: usize) -> Vec<u8> {
         let count = match self.counted {
             true => self.after.len() + self.before.len() - before,
             false => (self.after.len() + random.below(4)).saturating_sub(1),
@@ -149,10 +189,10 @@ impl Rest<'_> {
             let place = random.below(blocks.len() + 1);
             blocks.splice(place..place, self.shape.new_blocks(random, 1));
         }
-        rendered(&blocks)
+        [rendered(&blocks).0, self.shape.gap(random)].concat()
     }
 
-    /// A block edited freely: keywords, pixels, its length.
+    /// A block edited freely: keywords, pixels, its length, in kind 1 the gap before it.
     fn freely(&self, random: &mut Random, block: &BlockPlan) -> BlockPlan {
         let mut block = match random.below(4) {
             0 => block.clone(),
@@ -163,6 +203,9 @@ impl Rest<'_> {
         if random.percent(30) {
             let length = random.below(300);
             self.shape.set_data(random, &mut block, length);
+        }
+        if self.shape.kind == 1 && random.percent(50) {
+            block.lead = self.shape.gap(random);
         }
         block
     }
