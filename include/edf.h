@@ -9,6 +9,11 @@
  *
  * Calls with `file` and `block` judge the whole file first: its errors are "those of opening", 1 and 3 to 15, with their positions.
  * Blocks are numbered from 0. Every call may be made from several threads at once. No call keeps anything.
+ *
+ * A file is of kind 2 if the first key of its first header starts with EDF_, else of kind 1. In kind 1 whitespace (space, tab, LF,
+ * VT, FF, CR) may stand before the first block, between blocks and after the last; a block starts at its `{`, and its header may have
+ * any length up to 65,536. In kind 2 blocks are contiguous; a block starts at its `{`, or at an LF or CR LF just before it, and the
+ * length of its header is a multiple of the boundary: EDF_BlockBoundary, or 512.
  */
 #ifndef EDF_H
 #define EDF_H
@@ -24,23 +29,27 @@ extern "C" {
 
 /* The codes of errors. Positions: for 1, 2 and 15 it is 0; for 3 and 5 to 14 the offset of the block's start in the file; for 4 the
  * offset of the byte; for 17 and 18 the number of the field, 1 to 7 (edf_field_name), or 0 where a keyword is read as a whole
- * number or as a real number; for all others 0. edf_words gives the words. No error has the code 26. */
+ * number or as a real number; for all others 0. edf_words gives the words. No error has the code 26.
+ * The start of a block that is refused: in kind 1 the first byte after the block before that is no whitespace, or the length of a file
+ * of whitespace alone; in kind 2 the byte after the block before, or 0. Up to error 6 the first block has its start as in kind 1. If
+ * its header is then one of kind 2, the start is 0, and before 7 come 3, if no start of a header is at 0, and 5, if the header from
+ * there on is over 65,536 bytes. */
 enum {
     EDF_OK = 0,
     EDF_FILE_TOO_LARGE = 1,        /* file over 1,073,741,824 bytes */
     EDF_TABLE_TOO_SMALL = 2,       /* table under 256 rows */
     EDF_NO_HEADER = 3,             /* no start of a header here */
     EDF_BAD_HEADER_BYTE = 4,       /* byte 0, a byte above 127 or `{` inside a header */
-    EDF_NO_HEADER_END = 5,         /* no `}` with LF or CR LF after it in the block's first 65,536 bytes */
+    EDF_NO_HEADER_END = 5,         /* no `}` with LF or CR LF after it in the 65,536 bytes from the block's start */
     EDF_BAD_STATEMENT = 6,         /* something after the last `;`, a statement without `=`, or an empty key */
     EDF_TOO_LONG = 7,              /* key over 64 characters or value over 2,048 bytes */
     EDF_KEY_REPEATED = 8,          /* key twice in a header */
     EDF_KEY_RULE_BROKEN = 9,       /* a rule on EDF_ keys or Size broken */
     EDF_DATA_ELSEWHERE = 10,       /* EDF_BinaryFileName counts: the data is in another file */
-    EDF_BAD_HEADER_LENGTH = 11,    /* header length not a multiple of the boundary, or not EDF_HeaderSize */
+    EDF_BAD_HEADER_LENGTH = 11,    /* kind 2: header length not a multiple of the boundary, or not EDF_HeaderSize */
     EDF_DATA_PAST_END = 12,        /* data past the end of the file */
     EDF_IDENTITY_REPEATED = 13,    /* identity twice */
-    EDF_TOO_MANY_BLOCKS = 14,      /* bytes left after 256 blocks */
+    EDF_TOO_MANY_BLOCKS = 14,      /* bytes left after 256 blocks; in kind 1 other than whitespace */
     EDF_BLOCK_COUNT_WRONG = 15,    /* EDF_DataBlocks does not match */
     EDF_NOT_FOUND = 16,            /* no such block or keyword, or an array asked of the general block */
     EDF_UNKNOWN_WORD = 17,         /* unknown word */
@@ -91,7 +100,8 @@ enum { EDF_MOST_BLOCKS = 256, EDF_MOST_BYTES = 1073741824, EDF_TEXT_CAPACITY = 1
 
 /* A block of a file, as edf_open gives it: its start, the length of its header, the size of its data, and its kind,
  * EDF_GENERAL_BLOCK or EDF_DATA_BLOCK; then its identity, with instance EDF_PSD or EDF_ERROR. The identity of a general block, and
- * of any block of a file without EDF_ keys at its start, is 0, 0, 0. */
+ * of any block of a file of kind 1, is 0, 0, 0. A block may start after the end of the one before: whitespace between blocks is in no
+ * row. */
 typedef struct {
     uint64_t start, header, size, kind;
     int64_t sequence;

@@ -142,8 +142,9 @@ class Code(enum.IntEnum):
 
 
 class EdfError(ValueError):
-    """An error of the library. `position` is an offset in the file for codes 3 to 14, the number of the field for 17 and 18 (0 for
-    a keyword read as a whole number or as a real number), else 0. `field` is the name of that field, or None."""
+    """An error of the library. `position` is an offset in the file for codes 3 to 14: the start of the block, behind whitespace
+    where that may stand before it, or for 4 the byte. It is the number of the field for 17 and 18 (0 for a keyword read as a whole
+    number or as a real number), else 0. `field` is the name of that field, or None."""
 
     def __init__(self, code, position):
         self.code = Code(code)
@@ -190,7 +191,8 @@ class Identity(NamedTuple):
 
 class Block(NamedTuple):
     """A block: where it stands in the file. `kind` is "general" or "data"; `identity` is None for a general block, and in files
-    that do not start with an EDF_ key."""
+    that do not start with an EDF_ key. In these whitespace may stand before a block, between blocks and after the last: it is in
+    no block."""
 
     number: int
     start: int
@@ -511,7 +513,7 @@ class File:
         (docs/BINDINGS.md)."""
         block, (address, length, owner) = self._block(block), self._open_bytes()
         alone = _Place(address + block.start, block.header_length + block.data_length, 0, block.start, owner)
-        if len(self._blocks) > 1 and not self._has_general_block() and _is_alone(alone, block):
+        if alone.length < length and not self._has_general_block() and _is_alone(alone, block):
             return alone
         return _Place(address, length, block.number, 0, owner)
 

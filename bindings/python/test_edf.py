@@ -98,8 +98,9 @@ class Fixtures(unittest.TestCase):
         compared = 0
         for name, file in opened():
             for block in range(len(file)):
-                for key, text in file.header(block).items():
-                    self.assertEqual(file.text(block, key), text, (name, key))
+                for key in file.header(block):
+                    looked_up = answer(lambda f: f.text(block, key), file)
+                    self.assertEqual(answer(lambda f: f.header(block)[key], file), looked_up, (name, key))
                     compared += 1
         self.assertGreater(compared, 100)
 

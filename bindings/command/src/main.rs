@@ -38,7 +38,8 @@ edf: list, look into, check and export files of the ESRF Data Format
                                 status
     edf --help | --version
 
-FILE may be - for standard input. Blocks are numbered from 0. After -- no word is an option.
+FILE may be - for standard input. Blocks are numbered from 0; whitespace around them, which a file may have that does not
+start with an EDF_ key, is in no block. After -- no word is an option.
 
 Exit status: 0 all is well; 1 a file, block or keyword is refused; 2 the command line is wrong; 3 a file cannot be read or
 written; 141 whoever reads the output has gone.

@@ -15,7 +15,7 @@ pub enum Code {
     NoHeader,
     /// Byte 0, a byte above 127 or `{` inside a header.
     BadHeaderByte,
-    /// No `}` with LF or CR LF after it in the block's first 65,536 bytes.
+    /// No `}` with LF or CR LF after it in the 65,536 bytes from the block's start.
     NoHeaderEnd,
     /// Something after the last `;`, a statement without `=`, or an empty key.
     BadStatement,
@@ -27,13 +27,13 @@ pub enum Code {
     KeyRuleBroken,
     /// EDF_BinaryFileName counts: the data is in another file.
     DataElsewhere,
-    /// Header length not a multiple of the boundary, or not EDF_HeaderSize.
+    /// Header length not a multiple of the boundary, or not EDF_HeaderSize; only in files that start with an EDF_ key.
     BadHeaderLength,
     /// Data past the end of the file.
     DataPastEnd,
     /// Identity twice.
     IdentityRepeated,
-    /// Bytes left after 256 blocks.
+    /// Bytes left after 256 blocks; in files that do not start with an EDF_ key, other than whitespace.
     TooManyBlocks,
     /// EDF_DataBlocks does not match.
     BlockCountWrong,
@@ -135,7 +135,8 @@ impl Error {
     }
 
     /// Where: for codes 3 to 14 an offset in the file, the block's start or (4) the byte itself; for 17 and 18 the number of the
-    /// field, or 0 for a keyword read as a whole number or as a real number; else 0.
+    /// field, or 0 for a keyword read as a whole number or as a real number; else 0. Where whitespace may stand before a block, the
+    /// start is the first byte after it. For a file of whitespace alone that is the file's length (3).
     pub fn position(&self) -> usize {
         self.position
     }

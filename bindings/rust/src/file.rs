@@ -98,7 +98,8 @@ fn rows(bytes: &[u8]) -> Result<Vec<Row>, Error> {
 }
 
 impl<'a> File<'a> {
-    /// Opens a file: judges every header of it and finds its blocks. Codes 1 and 3 to 15.
+    /// Opens a file: judges every header of it and finds its blocks. Files that do not start with an EDF_ key may have whitespace
+    /// before, between and after their blocks. Codes 1 and 3 to 15.
     pub fn open(bytes: &'a [u8]) -> Result<File<'a>, Error> {
         Ok(File { bytes, rows: rows(bytes)? })
     }
@@ -136,7 +137,7 @@ impl<'a> File<'a> {
     fn source(&self, number: usize, row: &Row) -> Source<'a> {
         let alone = Source { bytes: row.bytes(self.bytes), start: row.start, number: 0 };
         let is_first = Row { start: 0, ..*row };
-        if self.rows.len() > 1 && self.rows[0].kind == BlockKind::Data && rows(alone.bytes) == Ok(vec![is_first]) {
+        if alone.bytes.len() < self.bytes.len() && self.rows[0].kind == BlockKind::Data && rows(alone.bytes) == Ok(vec![is_first]) {
             alone
         } else {
             Source { bytes: self.bytes, start: 0, number }
@@ -167,7 +168,8 @@ impl<'a> Block<'a> {
         self.number
     }
 
-    /// Where it starts in the file.
+    /// Where it starts in the file. In files that do not start with an EDF_ key this is its brace; whitespace before it is in no
+    /// block.
     pub fn start(&self) -> usize {
         self.row.start
     }
