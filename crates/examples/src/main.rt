@@ -1,9 +1,7 @@
-// Runs every public call on examples of document 01, and prints tables of what they answer: a column for each call. An error is `refused`,
+// Runs the public calls but `open` and `real` on examples of document 01, and prints tables of what they answer: a column for each call. An error is `refused`,
 // its code and its position; what stands in brackets is text. `stdout` is worked out by hand from document 01. Standard input is a
 // file with a block for each example of an array or a value; the other examples are made here.
 mod arrays;
-mod files;
-mod lend;
 mod print;
 mod values;
 mod writing;
@@ -39,11 +37,10 @@ fn main() {
     let n = io::read_full(STDIN_FILENO, &mut input);
     let file = &input[..n];
     print::show(
-        b"block | describe | read_array | stored_array | read_pixel | find | unescape | text | whole_number\nopen | first row | last row\n | escape | write | list\n",
+        b"block | describe | read_array | stored_array | read_pixel | find | unescape | text | whole_number\n | escape | write | list\n",
     );
     let mut out = [0u8; 8];
     show_blocks(file, b"Title", &mut out);
-    files::examples(file);
     print::put(b'\n');
     let mut written = [0u8; 1024];
     writing::example(b"x;", b"\0\x01\0\x02\0\x03\0\x04\0\x05\0\x06", &mut written);

@@ -1,4 +1,4 @@
--- `examples::lend::open_held` meets its contract: a walk through its code. All that it knows of `open` is that it meets its
+-- `open_examples::lend::open_held` meets its contract: a walk through its code. All that it knows of `open` is that it meets its
 -- contract. The local array is lent as a slice for a lifetime that is made for the call, and comes back as the list that `open`'s
 -- contract says.
 use mathlib.Core.Path.{_≡_, refl, sym, _∙_, subst}
@@ -59,14 +59,14 @@ use Rattle.edf.proofs.open as open′
 use Rattle.edf.proofs.open.Symbol as open-def
 use Rattle.edf.proofs.open.Symbol.{name as #edf·open}
 use Rattle.edf.proofs.open.Met as open-thm
-use Rattle.examples.specs.declared.lend.Held.{Held as Held′}
-use Rattle.examples.proofs.Lent.{each-same, lent-out, lent-in}
-use Rattle.examples.proofs.lend.Held as K
-use Rattle.examples.proofs.lend.Held.Laws as K′
-use Rattle.examples.proofs.lend.open_held.Key.{name as #opened}
-use Rattle.examples.proofs.lend.open_held as opened
-use Rattle.examples.proofs.lend.open_held.Statement as stated
-use Rattle.examples.proofs.lend.open_held.Code as code
+use Rattle.open_examples.specs.declared.lend.Held.{Held as Held′}
+use Rattle.open_examples.proofs.Lent.{each-same, lent-out, lent-in}
+use Rattle.open_examples.proofs.lend.Held as K
+use Rattle.open_examples.proofs.lend.Held.Laws as K′
+use Rattle.open_examples.proofs.lend.open_held.Key.{name as #opened}
+use Rattle.open_examples.proofs.lend.open_held as opened
+use Rattle.open_examples.proofs.lend.open_held.Statement as stated
+use Rattle.open_examples.proofs.lend.open_held.Code as code
 
 abbrev stayed : Stays (opened.ended .signature .params) (opened.ended .kept)
 stayed = (stay-none-slice (0 ∷ []) tt (plain (λ _. u8)) yes, (stay-none (λ _. R.the-row) yes, tt))
