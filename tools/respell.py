@@ -88,7 +88,7 @@ def table():
             for a in olds[1:]:
                 turned[a] = b + "_lem"
     for f in fields:
-        if f not in turned:
+        if f not in turned and not f[0].isupper():
             turned[f] = KEPT.get(f, snake(f).replace("-", "_"))
     return {a: b for a, b in turned.items() if a != b}, set(names) | set(fields), set(fields)
 

@@ -29,7 +29,7 @@ use Rattle.blocks.proofs.Coded.{coded, Asking}
 use Rattle.blocks.proofs.Declarations.{edf_declares, plain_declares}
 use Rattle.blocks.proofs.FirstLaws.{heads-same, heads_proves}
 use Rattle.blocks.proofs.Gaps.{next_unique}
-use Rattle.blocks.proofs.KeyErrors.{Judged_says, judged_says, judged_complete, key_error_complete}
+use Rattle.blocks.proofs.KeyErrors.{JudgedSays, judged_says, judged_complete, key_error_complete}
 use Rattle.blocks.proofs.Said.{said_once, keys_distinct}
 
 -- A block that is read, under rules of the grammar.
@@ -84,7 +84,7 @@ module _ (s : List ℕ) (given : Rules) (asking : Asking given) {b : Bool} {end 
   -- What the keys decide, once the header is parsed.
   keys-says : {h : Header} {ts : List Statement} {es : List Entry} (k : HasHeader s at h ts es) (r : Rules) (d : RulesAre given b es r)
       (p : Place s r b end at h) → (o : Outcome Accepted)
-      → Judged_says r (rules_asking given b _ asking d) p.rank (length s) h.length (keys_distinct k) o → BlockSays s given b end at o
+      → JudgedSays r (rules_asking given b _ asking d) p.rank (length s) h.length (keys_distinct k) o → BlockSays s given b end at o
   keys-says {h} {ts} {es} k r d p (ok a) j = record {
     rules = r;
     coded_are = sym j.same_rules;

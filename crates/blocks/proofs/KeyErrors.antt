@@ -79,7 +79,7 @@ module _ (r : Rules) (asking : Asking r) {b : Bool} {start : ℕ} (rank : IsFirs
   -- ---- What `judged` answers
 
   -- An accepted block keeps the rules.
-  pub record Is_accepted (a : Accepted) : Type 0 where
+  pub record IsAccepted (a : Accepted) : Type 0 where
     pub rules : KeepsRules r start es a.row
     pub starts : a.row.start ≡ start
     pub header_is : a.row.header ≡ header
@@ -87,9 +87,9 @@ module _ (r : Rules) (asking : Asking r) {b : Bool} {start : ℕ} (rank : IsFirs
     pub inside : a.next ≤ end
     pub same_rules : a.rules ≡ coded r
 
-  abbrev pub Judged_says : Outcome Accepted → Type 0
-  Judged_says (ok a) = Is_accepted a
-  Judged_says (failed e) = KeyError r start end header es e
+  abbrev pub JudgedSays : Outcome Accepted → Type 0
+  JudgedSays (ok a) = IsAccepted a
+  JudgedSays (failed e) = KeyError r start end header es e
 
   -- The row that is read, once role and size are.
   read : (role : Role) (size : ℕ) → role_of (coded r) b es ≡ some role → number_or 0 0 size_text ≡ some size
@@ -100,7 +100,7 @@ module _ (r : Rules) (asking : Asking r) {b : Bool} {start : ℕ} (rank : IsFirs
     header_size = decided whole_test w;
   }
 
-  pub judged_says : Judged_says (judged (coded r) b end start header es)
+  pub judged_says : JudgedSays (judged (coded r) b end start header es)
   unfolding judged
   judged_says =
       by_option (role_of (coded r) b es)
@@ -119,7 +119,7 @@ module _ (r : Rules) (asking : Asking r) {b : Bool} {start : ℕ} (rank : IsFirs
     where
       accepted : (role : Role) (size : ℕ) → Readable r start es (row_with start header size role) → Absent (Counted FileNameKey)
           → LengthKept r es header → start + header + size ≤ end
-          → Is_accepted (record { row = row_with start header size role; next = start + header + size; rules = coded r })
+          → IsAccepted (record { row = row_with start header size role; next = start + header + size; rules = coded r })
       accepted role size q n l u = record {
         rules = record {
           role = q.role;

@@ -12,7 +12,7 @@ use Rattle.blocks.specs.declared.Row.{Row}
 use Rattle.keyword.specs.declared.Origin.{Origin}
 use Rattle.keyword.specs.declared.Origin.TheVariants as origin
 use Rattle.description.specs.declared.Description.{Description}
-use Rattle.fields.specs.Field.{IsWord, WordIs, NumberIs, WholeIs, Field_has, DimsFound, DimsAre, Fields_are, TakesDefaults, TakesValues}
+use Rattle.fields.specs.Field.{IsWord, WordIs, NumberIs, WholeIs, FieldHas, DimsFound, DimsAre, FieldsAre, TakesDefaults, TakesValues}
 use Rattle.fields.proofs.KeywordLaws.{one-keyword}
 use Rattle.fields.proofs.ReadLaws.{lacks_absent}
 
@@ -47,25 +47,25 @@ module _ {Has : List ℕ → Type 0} where
 -- ---- The fields of a block
 
 module _ {s : List ℕ} {rows : List Row} {row : Row} where
-  one_field : {name : List ℕ} (v w : List ℕ) → Field_has s rows row name v → Field_has s rows row name w → v ≡ w
+  one_field : {name : List ℕ} (v w : List ℕ) → FieldHas s rows row name v → FieldHas s rows row name w → v ≡ w
   one_field v w f g = sym f.value_is ∙ ap (λ (e : Entry). e.value) (one-keyword f.keyword g.keyword) ∙ g.value_is
 
-  module _ {d : Description} (f : Fields_are s rows row d) where
-    dims_default : Absent (Field_has s rows row (ascii "Dim_1")) → (d.n ≡ 1) × (d.dim1 ≡ 0)
+  module _ {d : Description} (f : FieldsAre s rows row d) where
+    dims_default : Absent (FieldHas s rows row (ascii "Dim_1")) → (d.n ≡ 1) × (d.dim1 ≡ 0)
     dims_default n = go f.dims_are f.n_is f.dim1_is
       where
         go : {ds : List ℕ} → DimsAre s rows row ds → d.n ≡ length ds → d.dim1 ≡ get_or ds 0 1 → (d.n ≡ 1) × (d.dim1 ≡ 0)
         go (DimsAre.None-found m) p q = (p, q)
         go (DimsAre.some-found (DimsFound.found h w low high rest)) p q = absurd (n _ h)
 
-    dim1-value : (v : List ℕ) → Field_has s rows row (ascii "Dim_1") v → IsWhole v (pos d.dim1)
+    dim1-value : (v : List ℕ) → FieldHas s rows row (ascii "Dim_1") v → IsWhole v (pos d.dim1)
     dim1-value v h = go f.dims_are f.dim1_is
       where
         go : {ds : List ℕ} → DimsAre s rows row ds → d.dim1 ≡ get_or ds 0 1 → IsWhole v (pos d.dim1)
         go (DimsAre.None-found m) q = absurd (m v h)
         go (DimsAre.some-found (DimsFound.found {v = w} k a low high rest)) q = rw (q, sym (one_field w v k h)) a
 
-    pub takes_defaults : TakesDefaults (λ name o. Absent (Field_has s rows row name)) d
+    pub takes_defaults : TakesDefaults (λ name o. Absent (FieldHas s rows row name)) d
     takes_defaults = record {
       datatype = word_default f.datatype;
       byteorder = word_default f.byteorder;
@@ -88,7 +88,7 @@ module _ {s : List ℕ} {rows : List Row} {row : Row} where
       offset = λ e. takes_defaults.offset (lacks_absent.0 (f.origins.offset.default.0 e));
     }
 
-    pub takes_values : TakesValues (Field_has s rows row) d
+    pub takes_values : TakesValues (FieldHas s rows row) d
     takes_values = record {
       datatype = word_value one_field f.datatype;
       byteorder = word_value one_field f.byteorder;

@@ -28,7 +28,7 @@ use Rattle.description.specs.Describe.{Values, words_of, dims_of, description_wi
 use Rattle.description.specs.Fields.{range_field, whole_field}
 use Rattle.description.specs.declared.Description.{Description}
 use Rattle.description.proofs.DescribedLaws.{step_ok, check_ok, required, same_ok}
-use Rattle.fields.specs.Field.{Fields_are, UnknownField}
+use Rattle.fields.specs.Field.{FieldsAre, UnknownField}
 use Rattle.fields.specs.Origin.{OriginsAre}
 use Rattle.fields.proofs.DimLaws.{dims_say}
 use Rattle.fields.proofs.FieldLaws.{ReadsFields, number_says, whole_says}
@@ -40,7 +40,7 @@ use Rattle.fields.proofs.UnknownLaws.{words_known, unknown-first}
 -- A block with the row, whose fields are read by `look`.
 module _ {s : List ℕ} {rows : List Row} {row : Row} {look : Values} (reads : ReadsFields s rows row look) where
   fields_say : row.kind ≡ 1 → {origins : Origins} → OriginsAre s rows row origins → (size : ℕ) {d : Description}
-      → described look origins size ≡ ok d → Fields_are s rows row d
+      → described look origins size ≡ ok d → FieldsAre s rows row d
   unfolding described
   fields_say kind {origins} from size {d} e =
       let p = step_ok (words_of (by_name look)) _ d e in
@@ -54,7 +54,7 @@ module _ {s : List ℕ} {rows : List Row} {row : Row} {look : Values} (reads : R
       let w = check_ok (require (offset_allowed type.class u.0) 21 0)
       (ok (description_with p.0 q.0 r.0 t.0 u.0 origins)) d v.2 in
       let words = words_known reads p.1 in
-      subst (Fields_are s rows row) (same_ok w.2)
+      subst (FieldsAre s rows row) (same_ok w.2)
       (record {
         data_block = kind;
         datatype = words.0;
@@ -106,7 +106,7 @@ module _ {s : List ℕ} {rows : List Row} (small : length s ≤ file_limit) (p :
     unfolding description_of
     description_by = rw (view_is small p b at)
 
-    pub described_fields : {d : Description} → description_of s b ≡ ok d → Fields_are s rows row d
+    pub described_fields : {d : Description} → description_of s b ≡ ok d → FieldsAre s rows row d
     unfolding description_in
     described_fields {d} e =
         let q = check_ok (require (eqb row.kind 1) 16 0) _ d (sym description_by ∙ e) in

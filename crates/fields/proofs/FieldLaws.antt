@@ -17,7 +17,7 @@ use Rattle.blocks.proofs.ValueLaws.{Reads}
 use Rattle.description.specs.Describe.{Values}
 use Rattle.description.specs.Fields.{word_field, in_range, range_field, whole_field}
 use Rattle.description.proofs.DescribedLaws.{same_ok}
-use Rattle.fields.specs.Field.{IsWord, WordIs, Unknown, NumberIs, WholeIs, Field_has}
+use Rattle.fields.specs.Field.{IsWord, WordIs, Unknown, NumberIs, WholeIs, FieldHas}
 use Rattle.fields.proofs.Present.{present_some}
 use Rattle.fields.proofs.WordLaws.{finds_code}
 
@@ -74,4 +74,4 @@ module _ {Has : List ℕ → Type 0} {o : Option (List ℕ)} (reads : Reads Has 
 
 -- The fields of a block with the row are read by `look`.
 abbrev pub ReadsFields : List ℕ → List Row → Row → Values → Type 0
-ReadsFields s rows row look = (name : List ℕ) → Reads (Field_has s rows row name) (look name)
+ReadsFields s rows row look = (name : List ℕ) → Reads (FieldHas s rows row name) (look name)

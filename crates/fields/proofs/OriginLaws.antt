@@ -22,21 +22,21 @@ use Rattle.origins.specs.Origins.{origins_from, origins_in}
 use Rattle.origins.specs.declared.Origins.{Origins}
 use Rattle.origins.proofs.LetterLaws.{own_general, own_default, general_default}
 use Rattle.fields.specs.Keyword.{HeaderHas, Inherits, HasKeyword, LacksKeyword}
-use Rattle.fields.specs.Origin.{OwnHas, GeneralHas, Comes_from, EachOrigin, OriginsAre}
+use Rattle.fields.specs.Origin.{OwnHas, GeneralHas, ComesFrom, EachOrigin, OriginsAre}
 use Rattle.fields.proofs.HeaderLaws.{finds_in_header, row_headed, general_headed}
 use Rattle.fields.proofs.KeywordLaws.{shared, inherits_decides, in_reach, lacks, view_here}
 
 module _ {s : List ℕ} {rows : List Row} {row : Row} {name : List ℕ} where
   -- ---- By what the headers have
 
-  from_own : OwnHas s rows row name → Comes_from s rows row name origin.Own
+  from_own : OwnHas s rows row name → ComesFrom s rows row name origin.Own
   from_own h = record {
     own = (λ e. h, λ x. refl);
     general = (λ e. absurd (own_general e), λ x. absurd (x.0 h));
     default = (λ e. absurd (own_default e), λ n. absurd (n h.0 (HasKeyword.own h.1)));
   }
 
-  from_general : (OwnHas s rows row name → ⊥) → GeneralHas s rows row name → Comes_from s rows row name origin.General
+  from_general : (OwnHas s rows row name → ⊥) → GeneralHas s rows row name → ComesFrom s rows row name origin.General
   from_general n g = record {
     own = (λ e. absurd (own_general (sym e)), λ x. absurd (n x));
     general = (λ e. (n, g), λ x. refl);
@@ -46,7 +46,7 @@ module _ {s : List ℕ} {rows : List Row} {row : Row} {name : List ℕ} where
     );
   }
 
-  from_nowhere : LacksKeyword s rows row name → Comes_from s rows row name origin.Default
+  from_nowhere : LacksKeyword s rows row name → ComesFrom s rows row name origin.Default
   from_nowhere n = record {
     own = (λ e. absurd (own_default (sym e)), λ x. absurd (n x.0 (HasKeyword.own x.1)));
     general = (
@@ -58,11 +58,11 @@ module _ {s : List ℕ} {rows : List Row} {row : Row} {name : List ℕ} where
 
   from_headers : {own general : Option Entry} {b : Bool} → Finds (HeaderHas s row.start (key_of name)) own
       → Decides (Inherits rows row (key_of name)) b → (Inherits rows row (key_of name) → Finds (HeaderHas s 0 (key_of name)) general)
-      → Comes_from s rows row name (origin_by own (cond b general none))
+      → ComesFrom s rows row name (origin_by own (cond b general none))
   from_headers (found x) d g = from_own (_, x)
   from_headers (missing n) (holds i) g = inherited (g i)
     where
-      inherited : {general : Option Entry} → Finds (HeaderHas s 0 (key_of name)) general → Comes_from s rows row name (origin_by none general)
+      inherited : {general : Option Entry} → Finds (HeaderHas s 0 (key_of name)) general → ComesFrom s rows row name (origin_by none general)
       inherited (found x) = from_general (λ h. n h.0 h.1) (i, (_, x))
       inherited (missing m) = from_nowhere (lacks n (λ j. m))
   from_headers (missing n) (fails k) g = from_nowhere (lacks n (λ i. absurd (k i)))
@@ -96,7 +96,7 @@ each_map f e = record {
 
 module _ {s : List ℕ} {rows : List Row} (small : length s ≤ file_limit) (p : Partition s rows) (b : ℕ) {row : Row}
     (at : get_elem? rows b ≡ some row) where
-  pub comes_from : (name : List ℕ) → Comes_from s rows row name (origin_in (view_here small p b at) name)
+  pub comes_from : (name : List ℕ) → ComesFrom s rows row name (origin_in (view_here small p b at) name)
   unfolding origin_in
   comes_from name =
       let k = key_of name in

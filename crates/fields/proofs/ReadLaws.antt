@@ -21,7 +21,7 @@ use Rattle.blocks.specs.Values.{Absent}
 use Rattle.blocks.specs.declared.Row.{Row}
 use Rattle.keyword.specs.Keyword.{entry_of, found, value_found, whole_number_of, text_in}
 use Rattle.description.proofs.DescribedLaws.{step_ok, same_ok}
-use Rattle.fields.specs.Field.{Field_has}
+use Rattle.fields.specs.Field.{FieldHas}
 use Rattle.fields.specs.Keyword.{HasKeyword, LacksKeyword}
 use Rattle.fields.proofs.KeywordLaws.{keyword-found, keyword_missing}
 use Rattle.fields.proofs.Present.{present_some, present_none}
@@ -51,7 +51,7 @@ module _ (s : List ℕ) (b : ℕ) (sought : List ℕ) where
 
 -- A field is absent if its keyword is.
 pub lacks_absent : {s : List ℕ} {rows : List Row} {row : Row} {name : List ℕ}
-    → LacksKeyword s rows row name ↔ Absent (Field_has s rows row name)
+    → LacksKeyword s rows row name ↔ Absent (FieldHas s rows row name)
 lacks_absent = (
   λ n v f. n f.entry f.keyword,
   λ a e h. a e.value (record { entry = e; keyword = h; value_is = refl }),

@@ -13,20 +13,20 @@ use Rattle.origins.specs.Fields.{by_name}
 use Rattle.description.specs.Describe.{Values, words_of}
 use Rattle.description.specs.declared.words.Words.{Words}
 use Rattle.description.proofs.DescribedLaws.{same_ok}
-use Rattle.fields.specs.Field.{Field_has, Type_is, Order_is, Compression_is, UnknownField, datatype, byteorder, compression}
+use Rattle.fields.specs.Field.{FieldHas, TypeIs, OrderIs, CompressionIs, UnknownField, datatype, byteorder, compression}
 use Rattle.fields.proofs.FieldLaws.{ReadsFields, WordSays, known, unknown, word_says, not_both}
 use Rattle.fields.proofs.Spared.{Spares17, spared}
 
 -- What the outcome of the three says.
 data WordsSay (s : List ℕ) (rows : List Row) (row : Row) : Outcome Words → Type 0 where
-  all_known : {w : Words} → Type_is s rows row w.datatype → Order_is s rows row w.byteorder → Compression_is s rows row w.compression
+  all_known : {w : Words} → TypeIs s rows row w.datatype → OrderIs s rows row w.byteorder → CompressionIs s rows row w.compression
       → WordsSay s rows row (ok w)
   one-unknown : {k : ℕ} → UnknownField s rows row k → WordsSay s rows row (refused 17 k)
 
 module _ {s : List ℕ} {rows : List Row} {row : Row} where
-  join : {a b c : Outcome ℕ} → WordSays (Field_has s rows row (ascii "DataType")) 1 type_words 7 a
-      → WordSays (Field_has s rows row (ascii "ByteOrder")) 2 order_words 1 b
-      → WordSays (Field_has s rows row (ascii "Compression")) 3 compression_words 1 c
+  join : {a b c : Outcome ℕ} → WordSays (FieldHas s rows row (ascii "DataType")) 1 type_words 7 a
+      → WordSays (FieldHas s rows row (ascii "ByteOrder")) 2 order_words 1 b
+      → WordSays (FieldHas s rows row (ascii "Compression")) 3 compression_words 1 c
       → WordsSay s rows row (a >>= λ x. b >>= λ y. c >>= λ z. ok (record { datatype = x; byteorder = y; compression = z }))
   join (unknown u) b c = one-unknown (datatype u)
   join (known x) (unknown u) c = one-unknown (byteorder x u)
@@ -43,16 +43,16 @@ module _ {s : List ℕ} {rows : List Row} {row : Row} where
 
     -- Their codes.
     pub words_known : {w : Words} → words_of (by_name look) ≡ ok w
-        → Type_is s rows row w.datatype × Order_is s rows row w.byteorder × Compression_is s rows row w.compression
+        → TypeIs s rows row w.datatype × OrderIs s rows row w.byteorder × CompressionIs s rows row w.compression
     words_known {w} = go words_say
       where
         go : {o : Outcome Words} → WordsSay s rows row o → o ≡ ok w
-            → Type_is s rows row w.datatype × Order_is s rows row w.byteorder × Compression_is s rows row w.compression
+            → TypeIs s rows row w.datatype × OrderIs s rows row w.byteorder × CompressionIs s rows row w.compression
         go (all_known x y z) e = rw (← same_ok e) (x, y, z)
         go (one-unknown u) e = absurd (ok-failed (sym e))
 
     -- Not all known and one unknown,
-    none-unknown : {t o c k : ℕ} → Type_is s rows row t → Order_is s rows row o → Compression_is s rows row c → UnknownField s rows row k → ⊥
+    none-unknown : {t o c k : ℕ} → TypeIs s rows row t → OrderIs s rows row o → CompressionIs s rows row c → UnknownField s rows row k → ⊥
     none-unknown x y z (datatype u) = not_both (reads (ascii "DataType")) x u
     none-unknown x y z (byteorder t u) = not_both (reads (ascii "ByteOrder")) y u
     none-unknown x y z (compression t o u) = not_both (reads (ascii "Compression")) z u

@@ -46,54 +46,54 @@ module _ (Has : List ℕ → Type 0) where
 
 module _ (s : List ℕ) (rows : List Row) (row : Row) where
   -- The block has the field, with the value v.
-  pub record Field_has (name v : List ℕ) : Type 0 where
+  pub record FieldHas (name v : List ℕ) : Type 0 where
     pub entry : Entry
     pub keyword : HasKeyword s rows row name entry
     pub value_is : entry.value ≡ v
 
-  abbrev pub Type_is : ℕ → Type 0
-  Type_is code = WordIs (Field_has (ascii "DataType")) type_words 7 code
+  abbrev pub TypeIs : ℕ → Type 0
+  TypeIs code = WordIs (FieldHas (ascii "DataType")) type_words 7 code
 
-  abbrev pub Order_is : ℕ → Type 0
-  Order_is code = WordIs (Field_has (ascii "ByteOrder")) order_words 1 code
+  abbrev pub OrderIs : ℕ → Type 0
+  OrderIs code = WordIs (FieldHas (ascii "ByteOrder")) order_words 1 code
 
-  abbrev pub Compression_is : ℕ → Type 0
-  Compression_is code = WordIs (Field_has (ascii "Compression")) compression_words 1 code
+  abbrev pub CompressionIs : ℕ → Type 0
+  CompressionIs code = WordIs (FieldHas (ascii "Compression")) compression_words 1 code
 
   -- A field 1 to 3 whose word is the first that is unknown.
   pub data UnknownField : ℕ → Type 0 where
-    datatype : Unknown (Field_has (ascii "DataType")) type_words → UnknownField 1
-    byteorder : {type : ℕ} → Type_is type → Unknown (Field_has (ascii "ByteOrder")) order_words → UnknownField 2
-    compression : {type order : ℕ} → Type_is type → Order_is order → Unknown (Field_has (ascii "Compression")) compression_words
+    datatype : Unknown (FieldHas (ascii "DataType")) type_words → UnknownField 1
+    byteorder : {type : ℕ} → TypeIs type → Unknown (FieldHas (ascii "ByteOrder")) order_words → UnknownField 2
+    compression : {type order : ℕ} → TypeIs type → OrderIs order → Unknown (FieldHas (ascii "Compression")) compression_words
         → UnknownField 3
 
   -- "N is the largest J with Dim_1 to Dim_J all found": of the keys `names` from the first on, the Dims that are found.
   pub data DimsFound : List (List ℕ) → List ℕ → Type 0 where
-    missing : {name : List ℕ} {names : List (List ℕ)} → Absent (Field_has name) → DimsFound (name ∷ names) []
-    found : {name v : List ℕ} {names : List (List ℕ)} {d : ℕ} {ds : List ℕ} → Field_has name v → IsWhole v (pos d) → 1 ≤ d → d ≤ dim_limit
+    missing : {name : List ℕ} {names : List (List ℕ)} → Absent (FieldHas name) → DimsFound (name ∷ names) []
+    found : {name v : List ℕ} {names : List (List ℕ)} {d : ℕ} {ds : List ℕ} → FieldHas name v → IsWhole v (pos d) → 1 ≤ d → d ≤ dim_limit
         → DimsFound names ds → DimsFound (name ∷ names) (d ∷ ds)
 
   -- "With no Dim_1, N is 1 and Dim_1 is 0: an empty array."
   pub data DimsAre : List ℕ → Type 0 where
-    none_found : Absent (Field_has (ascii "Dim_1")) → DimsAre (0 ∷ [])
+    none_found : Absent (FieldHas (ascii "Dim_1")) → DimsAre (0 ∷ [])
     some-found : {d : ℕ} {ds : List ℕ} → DimsFound (ascii "Dim_1" ∷ ascii "Dim_2" ∷ ascii "Dim_3" ∷ ascii "Dim_4" ∷ []) (d ∷ ds)
         → DimsAre (d ∷ ds)
 
   -- A description whose fields are those of the block, or their defaults, and whose origins say which.
-  pub record Fields_are (d : Description) : Type 0 where
+  pub record FieldsAre (d : Description) : Type 0 where
     pub data_block : row.kind ≡ 1
-    pub datatype : Type_is d.datatype
-    pub byteorder : Order_is d.byteorder
-    pub compression : Compression_is d.compression
+    pub datatype : TypeIs d.datatype
+    pub byteorder : OrderIs d.byteorder
+    pub compression : CompressionIs d.compression
     pub dims : List ℕ
     pub dims_are : DimsAre dims
     pub n_is : d.n ≡ length dims
     pub dim1_is : d.dim1 ≡ get_or dims 0 1
     pub dim2_is : d.dim2 ≡ get_or dims 1 1
     pub dim3_is : d.dim3 ≡ get_or dims 2 1
-    pub configuration : NumberIs (Field_has (ascii "DataRasterConfiguration")) (configurations d.n) 1 d.configuration
-    pub orientation : NumberIs (Field_has (ascii "RasterOrientation")) (configurations d.n) 1 d.orientation
-    pub offset : WholeIs (Field_has (ascii "DataValueOffset")) (pos 0) d.offset
+    pub configuration : NumberIs (FieldHas (ascii "DataRasterConfiguration")) (configurations d.n) 1 d.configuration
+    pub orientation : NumberIs (FieldHas (ascii "RasterOrientation")) (configurations d.n) 1 d.orientation
+    pub offset : WholeIs (FieldHas (ascii "DataValueOffset")) (pos 0) d.offset
     pub origins : OriginsAre s rows row d.origins
 
 -- ---- A description, field by field

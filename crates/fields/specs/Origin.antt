@@ -20,7 +20,7 @@ module _ (s : List ℕ) (rows : List Row) (row : Row) where
 
   -- The origin of a keyword: own exactly if the own header has it, general exactly if the own header has it not and the general one has
   -- it, default exactly if no header in reach has it.
-  pub record Comes_from (name : List ℕ) (o : Origin) : Type 0 where
+  pub record ComesFrom (name : List ℕ) (o : Origin) : Type 0 where
     pub own : (o ≡ origin.Own) ↔ OwnHas name
     pub general : (o ≡ origin.General) ↔ ((OwnHas name → ⊥) × GeneralHas name)
     pub default : (o ≡ origin.Default) ↔ LacksKeyword s rows row name
@@ -37,4 +37,4 @@ pub record EachOrigin (P : List ℕ → Origin → Type 0) (o : Origins) : Type 
 
 -- Each field came from where its origin says.
 abbrev pub OriginsAre : List ℕ → List Row → Row → Origins → Type 0
-OriginsAre s rows row = EachOrigin (Comes_from s rows row)
+OriginsAre s rows row = EachOrigin (ComesFrom s rows row)

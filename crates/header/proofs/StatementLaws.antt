@@ -14,7 +14,7 @@ use Rattle.scan.proofs.Chains.{chain_unique}
 use Rattle.scan.proofs.Decides.{decided, refuted, passes, rejects}
 use Rattle.scan.proofs.Finds.{Finds, found, missing, by_finds, finds_some, finds_none}
 use Rattle.text.specs.Text.{every}
-use Rattle.header.specs.Cases.{Broken, BrokenBody, Too_long, Key_twice, StatementsError}
+use Rattle.header.specs.Cases.{Broken, BrokenBody, TooLong, KeyTwice, StatementsError}
 use Rattle.header.specs.Entry.{body_of, key}
 use Rattle.header.specs.Grammar.{StatementFrom, OnlyWhitespace, Parse}
 use Rattle.header.specs.Statements.{statement_at, continued, statements_within, statements_from}
@@ -150,13 +150,13 @@ module _ (s : List ℕ) (at : ℕ) (h : Header) where
   unfolding statements_of
   malformed_answer b = rw (statements-none body b)
 
-  pub too_long_answer : Too_long s h → statements_of s at h ≡ refused 7 at
+  pub too_long_answer : TooLong s h → statements_of s at h ≡ refused 7 at
   unfolding statements_of
   too_long_answer l =
       let ts = l.statements in
       rw (statements_are body (suc h.left) ts l.shape, rejects (all_short_decides body ts) (λ all. l.long (all l.statement l.member)))
 
-  pub key_twice_answer : Key_twice s h → statements_of s at h ≡ refused 8 at
+  pub key_twice_answer : KeyTwice s h → statements_of s at h ≡ refused 8 at
   unfolding statements_of
   key_twice_answer k =
       let ts = k.statements in

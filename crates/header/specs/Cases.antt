@@ -82,7 +82,7 @@ module _ (s : List ℕ) (h : Header) where
   BrokenBody = Broken (body_of s h) (suc h.left)
 
   -- 7: "key or value too long".
-  pub record Too_long : Type 0 where
+  pub record TooLong : Type 0 where
     pub statements : List Statement
     pub shape : Statements statements
     pub statement : Statement
@@ -90,7 +90,7 @@ module _ (s : List ℕ) (h : Header) where
     pub long : Short (body_of s h) statement → ⊥
 
   -- 8: "key twice".
-  pub record Key_twice : Type 0 where
+  pub record KeyTwice : Type 0 where
     pub statements : List Statement
     pub shape : Statements statements
     pub short : (t : Statement) → Memᴰ t statements → Short (body_of s h) t
@@ -99,5 +99,5 @@ module _ (s : List ℕ) (h : Header) where
   -- An error of the statements of the header, which stands at `start`, in its case.
   pub data StatementsError (start : ℕ) : Error → Type 0 where
     malformed : BrokenBody → StatementsError start (error_at 6 start)
-    too_long : Too_long → StatementsError start (error_at 7 start)
-    key_twice : Key_twice → StatementsError start (error_at 8 start)
+    too_long : TooLong → StatementsError start (error_at 7 start)
+    key_twice : KeyTwice → StatementsError start (error_at 8 start)

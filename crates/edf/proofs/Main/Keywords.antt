@@ -1,5 +1,5 @@
 -- The main theorems about keywords and fields, for a file that has a partition. `Find`, `Describe` and the others are the contracts of the
--- calls of these names (specs/Calls); `HasKeyword`, `Fields_are` and the others say what stands in the file (crates/fields/specs).
+-- calls of these names (specs/Calls); `HasKeyword`, `FieldsAre` and the others say what stands in the file (crates/fields/specs).
 use mathlib.Core.Path.{◌≡◌, refl, sym, subst, ◌∙◌}
 use mathlib.Core.List.{List}
 use mathlib.Core.Logic.Iff
@@ -31,7 +31,7 @@ use Rattle.blocks.specs.Grammar.{Partition}
 use Rattle.blocks.specs.Limits.{file_limit}
 use Rattle.blocks.specs.Values.{Absent}
 use Rattle.blocks.specs.declared.Row.{Row}
-use Rattle.fields.specs.Field.{Field_has, Fields_are, UnknownField, TakesDefaults, TakesValues}
+use Rattle.fields.specs.Field.{FieldHas, FieldsAre, UnknownField, TakesDefaults, TakesValues}
 use Rattle.fields.specs.Keyword.{HasKeyword, LacksKeyword}
 use Rattle.fields.specs.Origin.{EachOrigin, OriginsAre}
 -- ---- Laws
@@ -90,12 +90,12 @@ module _ {s : List ℕ} {rows : List Row} (small : length s ≤ file_limit) (par
     text_missing key c n = refused_by (no_text s block key ((keyword_missing small partition block at key).1 n)) c
 
     -- `describe` gives the fields of the block.
-    pub describes : {d : Description} → Describe s block (described.Array d) → Fields_are s rows row d
+    pub describes : {d : Description} → Describe s block (described.Array d) → FieldsAre s rows row d
     describes c = descriptions.described_fields small partition block at (sym c.answers)
 
     -- A field takes its default exactly if `find` gives 16 for it; one that is found is the word or number that stands there.
     absent_exactly : {name : List ℕ} {r : Located} → Find s block name r
-        → (r ≡ located.Failed (error_at 16 0)) ↔ Absent (Field_has s rows row name)
+        → (r ≡ located.Failed (error_at 16 0)) ↔ Absent (FieldHas s rows row name)
     absent_exactly c = Iff.trans (finds_none c) lacks_absent
 
     pub takes_defaults : {d : Description} → Describe s block (described.Array d)
