@@ -34,6 +34,109 @@ def blocks(text):
     return out
 
 
+SOURCES = {}
+
+
+def clauses_of(crate, rel, kind):
+    """The names of a function's clauses of a kind, in order; rel is as `value::trimmed_span`."""
+    parts = rel.split("::")
+    name, mods = parts[-1], parts[:-1]
+    base = os.path.join("crates", crate, "src")
+    tries = [os.path.join(base, *mods) + ".rt", os.path.join(base, *mods, "mod.rt")] if mods else [os.path.join(base, "lib.rt"), os.path.join(base, "main.rt")]
+    if mods and mods[-1][:1].isupper():
+        tries += [os.path.join(base, *mods[:-1]) + ".rt", os.path.join(base, "lib.rt")]
+    for p in tries:
+        if not os.path.exists(p):
+            continue
+        if p not in SOURCES:
+            SOURCES[p] = open(p).read()
+        m = re.search(r"\bfn " + re.escape(name) + r"\s*[(<]", SOURCES[p])
+        if m:
+            rest = SOURCES[p][m.end():]
+            rest = rest[: (re.search(r"\n\{|\n\s+\{\n|\n\}", rest) or re.search("$", rest)).start()]
+            return [x or "" for x in re.findall(r"^\s+" + kind + r"(?: (\w+))? \{", rest, re.M)]
+    return []
+
+
+def picked(tail, names):
+    """tail is what follows .ensures or .requires: positions of nested pairs become the clauses' names."""
+    if len(names) < 2 or not tail or not tail[0].isdigit():
+        return tail
+    k = 0
+    t = list(tail)
+    while t and t[0] == "1" and k < len(names) - 1:
+        k += 1
+        t = t[1:]
+    if k < len(names) - 1:
+        if not t or t[0] != "0":
+            if t and t[0].isdigit() and int(t[0]) < len(names) and k == 0:
+                return [names[int(t[0])]] + t[1:]
+            LOG.append(f"  clause {tail} of {names}")
+            return tail
+        t = t[1:]
+    return [names[k]] + t
+
+
+def top_tuple(term):
+    """(before, items, after) of the tuple that ends the term, or None."""
+    t = term.rstrip()
+    if not t.endswith(")"):
+        return None
+    depth = 0
+    for i in range(len(t) - 1, -1, -1):
+        if t[i] in ")]}":
+            depth += 1
+        elif t[i] in "([{":
+            depth -= 1
+            if depth == 0:
+                break
+    before = t[:i]
+    if before.strip() and not re.search(r"(\bin|↦|=)\s*$", before):
+        return None
+    items, depth, now = [], 0, ""
+    for ch in t[i + 1: -1]:
+        if ch in "([{":
+            depth += 1
+        elif ch in ")]}":
+            depth -= 1
+        if ch == "," and depth == 0:
+            items.append(now.strip())
+            now = ""
+        else:
+            now += ch
+    if now.strip():
+        items.append(now.strip())
+    return (before, items, "") if len(items) > 1 else None
+
+
+def recorded(term, names):
+    """A tuple for several clauses becomes a record of them by name."""
+    if len(names) < 2:
+        return term
+    got = top_tuple(term)
+    if not got:
+        if "[" in term and "↦" in term:
+            LOG.append(f"  a branch for {names}")
+            return term
+        last = term.rfind(" in\n")
+        last2 = term.rfind(" in ")
+        cut = max(last, last2)
+        head, tail = (term[: cut + 4], term[cut + 4:]) if cut >= 0 else ("", term)
+        return head + f"\n    let both = {tail.strip()} in record {{ " + "; ".join(f"{n} = both." + ".".join(["1"] * k + (["0"] if k < len(names) - 1 else [])) for k, n in enumerate(names)) + " }"
+    before, items, after = got
+    while len(items) < len(names):
+        last = top_tuple(items[-1])
+        if not last or last[0].strip():
+            break
+        items = items[:-1] + last[1]
+    if items and items[-1] == "tt" and len(items) == len(names) + 1:
+        items = items[:-1]
+    if len(items) != len(names):
+        LOG.append(f"  {len(items)} parts for {names}")
+        return term
+    return before + "record { " + "; ".join(f"{n} = {i}" for n, i in zip(names, items)) + " }"
+
+
 SEG = r"[^\s(){}\[\];,.λ]+"
 PATH = re.compile(r"(?<![\w'.-])c((?:\." + SEG + r")+)")
 
@@ -58,6 +161,10 @@ class Function:
             place = self.places[i][1]
 
 
+def nested(items):
+    return items[0] if len(items) == 1 else f"({items[0]}, {nested(items[1:])})"
+
+
 def path_of(fn, place, segs):
     """The new path for c.SEGS at a place."""
     chain = list(fn.chain(place))
@@ -70,6 +177,8 @@ def path_of(fn, place, segs):
     step = rest[0]
     tail = rest[1:]
     if step in ("args", "requires", "ranges", "type_inv", "type-inv"):
+        if step == "requires":
+            tail = picked(tail, fn.requires)
         return ["c", step.replace("-", "_")] + tail
     ks = list(range(b, len(chain))) + list(range(0, b))
     for k in ks:
@@ -87,6 +196,20 @@ def path_of(fn, place, segs):
                     return ["c", arm[0], best[0]] + tail[len(best[1]):]
         if old and norm(old) == norm(step):
             if arm is None or not re.search(r"-\d+$", new):
+                callee = fn.places[i][3]
+                if callee and tail and tail[0] == "ensures":
+                    crate, rel = callee.split("::", 1)
+                    names = clauses_of(crate, rel, "ensures")
+                    if len(names) > 1 and len(tail) == 1:
+                        return [nested(["c." + new + ".ensures." + n for n in names])]
+                    tail = tail[:1] + picked(tail[1:], names)
+                if callee and tail and tail[0] == "new" and callee in fn.entry["params"] and len(tail) > 1 and tail[1].isdigit():
+                    k, t = 0, tail[1:]
+                    while t and t[0] == "1":
+                        k += 1
+                        t = t[1:]
+                    if t and t[0] == "0" and k < len(fn.entry["params"][callee]):
+                        tail = ["new", fn.entry["params"][callee][k]] + t[1:]
                 return ["c", new] + tail
     for k in ks:
         i = chain[k]
@@ -112,7 +235,7 @@ def rename_steps(body, fn, place):
 def unalias(term):
     """let l = c.before.before in .. l.x .. -> .. c.before.before.x .."""
     while True:
-        m = re.search(r"let ([^\s:(){}]+) = (c(?:\.before)*) in\s*", term)
+        m = re.search(r"let ([^\s:(){}]+) = (c(?:\.[^\s(){}\[\];,.λ]+)*) in\s*", term)
         if not m:
             return term
         name, path = m.group(1), m.group(2)
@@ -136,12 +259,17 @@ def flat_of(varnames, changed, args):
 def convert(path, modpath, entry):
     text = open(path).read()
     fn = Function(entry)
+    _, crate, _, rel = modpath.split(".", 3)
+    rel = rel.replace(".", "::")
+    fn.requires = clauses_of(crate, rel, "requires")
+    ensures = clauses_of(crate, rel, "ensures")
     parts = blocks(text)
     head = parts[0]
     comments = [l for l in head.split("\n") if l.startswith("--")]
     uses = [l for l in head.split("\n") if l.startswith("use ")]
     invs, answers = [], []
     macros = {}
+    opened = {}
     loops = entry["loops"]
 
     def expand(term):
@@ -254,17 +382,32 @@ def convert(path, modpath, entry):
                 args.remove("κs")
             term = expand(unalias(term))
             term = rename_steps(term, fn, place)
+            term = re.sub(r"flipped _ (c\.)", r"\1", term)
+            if new.startswith("returns"):
+                term = recorded(term, ensures)
+            elif "-requires" in new:
+                callee = next((p[3] for i in fn.chain(place) for p in [fn.places[i]] if False), None)
+                step = new.split("-requires")[0]
+                for c in entry["params"]:
+                    if norm(step).startswith(norm(c.split("::")[-1])):
+                        callee = c
+                if callee:
+                    term = recorded(term, clauses_of(callee.split("::")[0], callee.split("::", 1)[1], "requires"))
+            for nm, words in opened.items():
+                if re.search(r"\blet " + re.escape(nm) + r"(?![\w'])", term):
+                    unf = [(unf[0] if unf else "unfolding") + " " + " ".join(w for w in words if not unf or w not in unf[0].split())]
             answers.append("\n".join(note + [f"pub {new} : goal.{new}"] + unf + [f"{new} {' '.join(args)} ={term}".rstrip()]))
             continue
         if "{M : Type 1} → statement M" in d:
             continue
         if re.search(r"tie\.", d):
             joined = "\n".join(code)
-            mm = re.match(r"(?:abbrev )?(\S+) : \(?(?:(\S+) : )?tie\.(\S+?)\)?\s*(?:→\s*)?((?:.|\n)*?)\n((?:unfolding [^\n]*\n)?)\1 (\S+)((?: \S+)*?) =((?:.|\n)*)$", joined)
+            mm = re.match(r"(?:abbrev )?(\S+) :\s+\(?(?:(\S+) : )?tie\.([^\s)]+)(?: [^)→]*)?\)?\s*(?:→\s*)?((?:.|\n)*?)\n((?:unfolding [^\n]*\n)?)\1 (\S+)((?: \S+)*?) =((?:.|\n)*)$", joined)
             if mm:
                 name, var, place, typ, unf, var2, more, body = mm.groups()
                 if unf:
-                    LOG.append(f"  local {name} unfolds: {unf.strip()}")
+                    opened[name] = unf.split()[1:]
+                typ = unalias(typ)
                 typ = re.sub(r"(?<![\w'.-])" + re.escape(var or var2) + r"(?![\w'-])", "c", typ) if (var or var2) != "c" else typ
                 body = re.sub(r"(?<![\w'.-])" + re.escape(var2) + r"(?![\w'-])", "c", body) if var2 != "c" else body
                 body = unalias(body)

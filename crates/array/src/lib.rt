@@ -1,3 +1,5 @@
+#![tactic(auto)]
+
 // A block's array, delivered, and one pixel of it.
 pub mod deliver;
 pub mod pixel;
@@ -7,7 +9,7 @@ use raster::Pixel;
 use scan::Error;
 
 // The answer of reading one pixel.
-#[derive(Drop)]
+#[derive(Clone, Copy)]
 pub enum Sampled {
     Value(Pixel),
     Failed(Error),

@@ -1,3 +1,5 @@
+#![tactic(auto)]
+
 // A file as blocks.
 use scan::Error;
 
@@ -16,7 +18,7 @@ pub const PLAIN_BOUNDARY: usize = 1;
 // A block, as a row of the table that opening fills: its start, the length of its header, the size of its data, and its kind, 0 for
 // a general block and 1 for a data block; then its identity, with instance 1 for Psd and 2 for Error. The last three are 0
 // for a general block and in files of kind 1.
-#[derive(Drop)]
+#[derive(Clone, Copy)]
 pub struct Row {
     pub start: usize,
     pub header: usize,
@@ -28,7 +30,7 @@ pub struct Row {
 }
 
 // The identity of a data block of kind 2.
-#[derive(Drop)]
+#[derive(Clone, Copy)]
 pub struct Identity {
     pub sequence: i64,
     pub instance: u8,
@@ -36,7 +38,7 @@ pub struct Identity {
 }
 
 // What a header says its block is: its kind, and its identity or zeros.
-#[derive(Drop)]
+#[derive(Clone, Copy)]
 pub struct Role {
     pub kind: u8,
     pub identity: Identity,
@@ -44,7 +46,7 @@ pub struct Role {
 
 // What the first header says of the whole file: its kind, 1 or 2; the boundary of headers; and how many data blocks the
 // general header asks for, 0 where there is no general header.
-#[derive(Drop)]
+#[derive(Clone, Copy)]
 pub struct FileRules {
     pub kind: u8,
     pub boundary: usize,
@@ -52,7 +54,7 @@ pub struct FileRules {
 }
 
 // A block that was accepted: its row, the offset after it, and the file's rules.
-#[derive(Drop)]
+#[derive(Clone, Copy)]
 pub struct Accepted {
     pub row: Row,
     pub next: usize,
@@ -60,7 +62,7 @@ pub struct Accepted {
 }
 
 // The answer of opening a file: the number of blocks.
-#[derive(Drop)]
+#[derive(Clone, Copy)]
 pub enum Opened {
     Blocks(usize),
     Failed(Error),

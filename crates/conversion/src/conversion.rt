@@ -10,7 +10,7 @@ use shift::shift::Shift;
 
 // An element of `width` bytes in the order with the code `order`, to be delivered in the order `asked`: with the offset of
 // `shift` added, if `adds`; else with its bytes reversed, if `reverses`; else as it stands.
-#[derive(Drop)]
+#[derive(Clone, Copy)]
 pub struct Conversion {
     pub width: usize,
     pub adds: bool,

@@ -6,7 +6,7 @@ ghost use Rattle.raster.specs.Types.{code_from, code_of, type_words, order_words
 ghost use Rattle.description.specs.Answers.{code_option};
 
 // The code of a word, if it is one of those allowed.
-#[derive(Drop)]
+#[derive(Clone, Copy)]
 pub enum Code {
     Known(u8),
     Unknown,

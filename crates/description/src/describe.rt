@@ -24,7 +24,7 @@ use scan::Error;
 use text::signed::{Parts, apart};
 
 // Dims as a description has them: there are n, and those past n are 1.
-#[derive(Drop)]
+#[derive(Clone, Copy)]
 pub struct Extents {
     pub n: u8,
     pub dim1: usize,

@@ -11,7 +11,7 @@ use keyword::{Block, Traced, Value};
 use scan::Error;
 
 // One Dim, if it is found.
-#[derive(Drop)]
+#[derive(Clone, Copy)]
 pub enum Dim {
     Missing,
     Value(u32),
@@ -19,7 +19,7 @@ pub enum Dim {
 }
 
 // One to three Dims.
-#[derive(Drop)]
+#[derive(Clone, Copy)]
 pub enum Dims {
     One(u32),
     Two(u32, u32),
@@ -27,7 +27,7 @@ pub enum Dims {
 }
 
 // The Dims of an array.
-#[derive(Drop)]
+#[derive(Clone, Copy)]
 pub enum Measured {
     As(Dims),
     Failed(Error),

@@ -1,3 +1,5 @@
+#![tactic(auto)]
+
 // What a block's header says of its array.
 pub mod codes;
 pub mod describe;
@@ -15,7 +17,7 @@ pub const DIM_LIMIT: u32 = 1048576;
 // The description of a block's array, with the codes of its words: the data type's number in 01's table, 1 to 10; the byte
 // order, 1 for HighByteFirst and 2 for LowByteFirst; the compression, 1 for None. There are `n` dimensions, 1 to 3; those
 // past `n` are 1. `origins` says where each field came from.
-#[derive(Drop)]
+#[derive(Clone, Copy)]
 pub struct Description {
     pub datatype: u8,
     pub byteorder: u8,
@@ -31,7 +33,7 @@ pub struct Description {
 }
 
 // The answer of describing a block's array.
-#[derive(Drop)]
+#[derive(Clone, Copy)]
 pub enum Described {
     Array(Description),
     Failed(Error),

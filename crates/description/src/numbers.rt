@@ -15,7 +15,7 @@ use scan::Error;
 use text::number::{Whole, whole_number};
 
 // The numbers of fields 5 to 7.
-#[derive(Drop)]
+#[derive(Clone, Copy)]
 pub struct Numbers {
     pub configuration: u32,
     pub orientation: u32,
@@ -23,7 +23,7 @@ pub struct Numbers {
 }
 
 // Fields 5 to 7 of a block.
-#[derive(Drop)]
+#[derive(Clone, Copy)]
 pub enum Numbered {
     As(Numbers),
     Failed(Error),

@@ -9,7 +9,7 @@ use reading::values::{Count, number_at_least};
 use scan::Error;
 
 // A field's number, where its range is known.
-#[derive(Drop)]
+#[derive(Clone, Copy)]
 pub enum Ranged {
     Value(u32),
     Failed(Error),

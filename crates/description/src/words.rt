@@ -15,14 +15,14 @@ use origins::Fields;
 use scan::Error;
 
 // The code of a field's word.
-#[derive(Drop)]
+#[derive(Clone, Copy)]
 pub enum Coded {
     As(u8),
     Failed(Error),
 }
 
 // The codes of fields 1 to 3.
-#[derive(Drop)]
+#[derive(Clone, Copy)]
 pub struct Words {
     pub datatype: u8,
     pub byteorder: u8,
@@ -30,7 +30,7 @@ pub struct Words {
 }
 
 // Fields 1 to 3 of a block.
-#[derive(Drop)]
+#[derive(Clone, Copy)]
 pub enum Worded {
     As(Words),
     Failed(Error),

@@ -1,3 +1,5 @@
+#![tactic(auto)]
+
 // The public calls. Each takes any bytes and any numbers, and answers what a definition in the layers below gives. Calls on a
 // block take the file and the block's number, from 0, and answer as if they opened the file anew: where the file does not
 // open, the error is that of opening (1 and 3 to 15), with its position.

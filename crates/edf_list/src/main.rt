@@ -1,3 +1,5 @@
+#![tactic(auto)]
+
 // Lists the file on its standard input. What it prints is proved (`input_listing`, of crate listing); that it is read from standard
 // input and written to standard output is not.
 use libc::{STDIN_FILENO, STDOUT_FILENO};

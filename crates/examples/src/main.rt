@@ -1,3 +1,5 @@
+#![tactic(auto)]
+
 // Runs the public calls but `open` and `real` on examples of document 01, and prints tables of what they answer: a column for each call. An error is `refused`,
 // its code and its position; what stands in brackets is text. `stdout` is worked out by hand from document 01. Standard input is a
 // file with a block for each example of an array or a value; the other examples are made here.

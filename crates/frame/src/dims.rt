@@ -7,7 +7,7 @@ ghost use Rattle.frame.specs.Shape.{shape_dims, Small, IsShape};
 use crate::Frame;
 
 // Three dimensions.
-#[derive(Drop)]
+#[derive(Clone, Copy)]
 pub struct Shape {
     pub dim1: usize,
     pub dim2: usize,

@@ -1,3 +1,5 @@
+#![tactic(auto)]
+
 // What a file is written from: a frame, whether it may be written, and its dimensions.
 
 pub mod check;
@@ -5,7 +7,7 @@ pub mod dims;
 
 // What to write: the identity, the codes of the data type (1 to 10) and the byte order (1 or 2) as in a description, the number
 // of dimensions, the dimensions (those past `n` are not read), and the raster configuration.
-#[derive(Drop)]
+#[derive(Clone, Copy)]
 pub struct Frame {
     pub sequence: i64,
     pub instance: u8,

@@ -1,3 +1,5 @@
+#![tactic(auto)]
+
 // A header: its frame, its statements, its keys.
 pub mod check;
 pub mod frame;
@@ -12,7 +14,7 @@ pub const HEADER_LIMIT: usize = 65536;
 
 // A header that stands at some offset: the offsets of its `{` and `}`, and its length from the first byte of its start
 // pattern to the last of its end pattern.
-#[derive(Drop)]
+#[derive(Clone, Copy)]
 pub struct Header {
     pub left: usize,
     pub right: usize,
@@ -20,7 +22,7 @@ pub struct Header {
 }
 
 // A statement: the offsets of its first byte, its `=` and its `;`.
-#[derive(Drop)]
+#[derive(Clone, Copy)]
 pub struct Statement {
     pub first: usize,
     pub equals: usize,
@@ -28,7 +30,7 @@ pub struct Statement {
 }
 
 // What stands where a statement may start: one, nothing but whitespace, or neither.
-#[derive(Drop)]
+#[derive(Clone, Copy)]
 pub enum Next {
     One(Statement),
     End,
@@ -36,14 +38,14 @@ pub enum Next {
 }
 
 // The answer of a search for a header: where it stands, or why none does.
-#[derive(Drop)]
+#[derive(Clone, Copy)]
 pub enum Framed {
     At(Header),
     Failed(Error),
 }
 
 // The answer of a check: it passes, or the error.
-#[derive(Drop)]
+#[derive(Clone, Copy)]
 pub enum Checked {
     Good,
     Failed(Error),

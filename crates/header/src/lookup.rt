@@ -13,7 +13,7 @@ use text::key::same_key;
 use text::value::value_span;
 
 // The answer of a search for a key.
-#[derive(Drop)]
+#[derive(Clone, Copy)]
 pub enum Sought {
     At(Statement),
     Missing,

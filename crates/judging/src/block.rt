@@ -18,7 +18,7 @@ use reading::values::{Count, HeaderSize};
 use scan::Error;
 
 // A block that is accepted, or why it is not.
-#[derive(Drop)]
+#[derive(Clone, Copy)]
 pub enum Judged {
     Block(Accepted),
     Failed(Error),

@@ -14,7 +14,7 @@ use reading::identity::{Identified, identity_of};
 use text::key::same_key;
 
 // The role that a header gives its block, if it keeps the rules for it.
-#[derive(Drop)]
+#[derive(Clone, Copy)]
 pub enum Roled {
     As(Role),
     Broken,

@@ -21,7 +21,7 @@ use reading::version::is_version;
 use text::key::same_key;
 
 // The rules that a first header gives, if it keeps its own.
-#[derive(Drop)]
+#[derive(Clone, Copy)]
 pub enum Ruled {
     By(FileRules),
     Broken,

@@ -1,3 +1,5 @@
+#![tactic(auto)]
+
 // Keywords of a block.
 pub mod lookup;
 pub mod read;
@@ -9,7 +11,7 @@ use scan::{Error, Span};
 
 // A block as its keywords are looked up: its row, its own header, and the file's first header, which is searched too where
 // `inherits` is true.
-#[derive(Drop)]
+#[derive(Clone, Copy)]
 pub struct Block {
     pub row: Row,
     pub own: Header,
@@ -18,14 +20,14 @@ pub struct Block {
 }
 
 // The answer of a search for a block.
-#[derive(Drop)]
+#[derive(Clone, Copy)]
 pub enum Viewed {
     At(Block),
     Failed(Error),
 }
 
 // The answer of a search for a key: the span of its value in the file.
-#[derive(Drop)]
+#[derive(Clone, Copy)]
 pub enum Value {
     At(Span),
     Missing,
@@ -33,7 +35,7 @@ pub enum Value {
 
 // Where the value of a keyword came from: the block's own header, the general header, or, where no header in reach has the keyword, the
 // default.
-#[derive(Drop)]
+#[derive(Clone, Copy)]
 pub enum Origin {
     Own,
     General,
@@ -41,21 +43,21 @@ pub enum Origin {
 }
 
 // A keyword of a block: its value, and where that came from.
-#[derive(Drop)]
+#[derive(Clone, Copy)]
 pub struct Traced {
     pub value: Value,
     pub origin: Origin,
 }
 
 // The answer of looking a keyword up: where its value stands in the file.
-#[derive(Drop)]
+#[derive(Clone, Copy)]
 pub enum Located {
     At(Span),
     Failed(Error),
 }
 
 // The answer of reading a keyword's value as a whole number.
-#[derive(Drop)]
+#[derive(Clone, Copy)]
 pub enum Number {
     Value(i64),
     Failed(Error),

@@ -1,3 +1,5 @@
+#![tactic(auto)]
+
 // What the lister prints of a file.
 pub mod limits;
 pub mod lines;

@@ -1,3 +1,5 @@
+#![tactic(auto)]
+
 // Rows of elements with an offset added.
 pub mod adding;
 pub mod blocks;

@@ -6,7 +6,7 @@ ghost use Rattle.blocks.specs.Opening.{opened_into, count_of, table_after};
 
 use blocks::{Opened, Row};
 
-#[derive(Drop)]
+#[derive(Clone, Copy)]
 pub struct Held {
     pub rows: [Row; 256],
     pub answer: Opened,

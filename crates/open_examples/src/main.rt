@@ -1,3 +1,5 @@
+#![tactic(auto)]
+
 // Runs the public call `open` on worked examples of documents 01 and 02, No. 4, and prints a line for each: the number of blocks, or
 // `refused`, code and position; then start, header length and data size in the first and in the last row of the table, which held 7
 // everywhere. `stdout` is worked out by hand from the documents.

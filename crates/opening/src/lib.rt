@@ -1,3 +1,5 @@
+#![tactic(auto)]
+
 // Opening a file: block by block, the rows in an array of this function.
 pub mod identity;
 pub mod run;
@@ -18,14 +20,14 @@ pub const BLANK: Row = Row {
 };
 
 // What comes next: a block more, or the answer.
-#[derive(Drop)]
+#[derive(Clone, Copy)]
 pub enum Step {
     Block(Accepted),
     End(Opened),
 }
 
 // A file that was opened: the answer, and the rows, of which the first `count` are those of its blocks.
-#[derive(Drop)]
+#[derive(Clone, Copy)]
 pub struct Opening {
     pub rows: [Row; BLOCK_LIMIT],
     pub count: usize,

@@ -1,3 +1,5 @@
+#![tactic(auto)]
+
 // The pixels of a frame in the order in which its configuration stores them.
 
 pub mod data;

@@ -11,7 +11,7 @@ use raster::configuration::{Direction, order_of};
 use raster::stride::Steps;
 
 // One axis: its dimension, how far one more of its index is on or back, and where it starts.
-#[derive(Drop)]
+#[derive(Clone, Copy)]
 struct Run {
     dim: usize,
     up: usize,
@@ -70,7 +70,7 @@ fn run_along(d: Direction, s: Shape, w: usize) -> Run
 }
 
 // The steps, and the dimensions in the order in which they run.
-#[derive(Drop)]
+#[derive(Clone, Copy)]
 pub struct Walk {
     pub steps: Steps,
     pub dim1: usize,

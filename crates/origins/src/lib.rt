@@ -1,3 +1,5 @@
+#![tactic(auto)]
+
 // The fields of a block's array as they are found, and where each came from.
 pub mod letters;
 pub mod search;
@@ -5,7 +7,7 @@ pub mod search;
 use keyword::{Origin, Traced};
 
 // The fields, each as its keyword is found; that of the Dims is Dim_1.
-#[derive(Drop)]
+#[derive(Clone, Copy)]
 pub struct Fields {
     pub datatype: Traced,
     pub byteorder: Traced,
@@ -17,7 +19,7 @@ pub struct Fields {
 }
 
 // Where each field came from.
-#[derive(Drop)]
+#[derive(Clone, Copy)]
 pub struct Origins {
     pub datatype: Origin,
     pub byteorder: Origin,

@@ -1,3 +1,5 @@
+#![tactic(auto)]
+
 // The value of a keyword of a block as a real number with its unit.
 ghost use Rattle.std.specs.Prelude.{◌≡◌};
 ghost use Rattle.reals.specs.Answers.{measured_outcome};

@@ -1,1 +1,3 @@
+#![tactic(auto)]
+
 // What is written reads back: theorems only, in `proofs/Main`.

@@ -12,14 +12,14 @@ use text::number::{Whole, whole_number};
 use text::signed::{Parts, apart};
 
 // The identity that a value stands for.
-#[derive(Drop)]
+#[derive(Clone, Copy)]
 pub enum Identified {
     As(Identity),
     Invalid,
 }
 
 // The instance and the memory of an identity.
-#[derive(Drop)]
+#[derive(Clone, Copy)]
 pub enum Named {
     Of(u8, i64),
     Invalid,

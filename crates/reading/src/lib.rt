@@ -1,3 +1,5 @@
+#![tactic(auto)]
+
 // The keys for blocks: where they stand among a header's statements, and what their values mean.
 pub mod identity;
 pub mod keys;

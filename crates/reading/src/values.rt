@@ -10,7 +10,7 @@ use text::number::{Whole, whole_number};
 use text::signed::{Parts, apart};
 
 // A number that a value stands for, where the rules allow it.
-#[derive(Drop)]
+#[derive(Clone, Copy)]
 pub enum Count {
     Value(usize),
     Invalid,
@@ -18,7 +18,7 @@ pub enum Count {
 
 // What EDF_HeaderSize says of a header's length: that it is the length, or nothing; that it is another whole number; no whole
 // number.
-#[derive(Drop)]
+#[derive(Clone, Copy)]
 pub enum HeaderSize {
     Kept,
     Other,

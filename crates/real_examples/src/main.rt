@@ -1,3 +1,5 @@
+#![tactic(auto)]
+
 // Runs the public call `real` on worked examples of document 02, No. 2: the keywords `a` to `u` of the file on its standard input, and
 // one that is not there. Prints the value in brackets, the unit and the bits of the float in hexadecimal; or `refused`, code and position.
 // `stdout` is worked out apart, with exact fractions.

@@ -1,3 +1,5 @@
+#![tactic(auto)]
+
 // Real numbers as text: a number with a point, a power of ten and a unit, read as a 64-bit float that is rounded once.
 pub mod measures;
 pub mod parse;
@@ -5,7 +7,7 @@ pub mod parse;
 use scan::Error;
 
 // The unit of a number; none for a bare number.
-#[derive(Drop)]
+#[derive(Clone, Copy)]
 pub enum Measure {
     Bare,
     Metres,
@@ -14,7 +16,7 @@ pub enum Measure {
 }
 
 // A real number: a bare number, metres, degrees or radians.
-#[derive(Drop)]
+#[derive(Clone, Copy)]
 pub enum Real {
     Number(f64),
     Metres(f64),
@@ -23,7 +25,7 @@ pub enum Real {
 }
 
 // The answer of reading a real number.
-#[derive(Drop)]
+#[derive(Clone, Copy)]
 pub enum Measured {
     Value(Real),
     Failed(Error),

@@ -5,7 +5,7 @@ ghost use Rattle.reals.specs.Measure.{measured_in, measure_named, named_option, 
 use super::{Measure, Real};
 
 // A unit by its name, if there is one.
-#[derive(Drop)]
+#[derive(Clone, Copy)]
 pub enum Named {
     Is(Measure),
     Unknown,

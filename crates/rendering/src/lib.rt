@@ -1,3 +1,5 @@
+#![tactic(auto)]
+
 // The text of a header, line by line.
 
 pub mod filling;

@@ -8,7 +8,7 @@ ghost use Rattle.scaling.specs.Limits.{coefficient_limit};
 
 use crate::COEFFICIENT_LIMIT;
 
-#[derive(Drop)]
+#[derive(Clone, Copy)]
 pub enum Digits {
     Value(u64),
     Invalid,

@@ -1,3 +1,5 @@
+#![tactic(auto)]
+
 // Decimal numbers as 64-bit floats: a coefficient times a power of ten, rounded once.
 pub mod digits;
 pub mod power;

@@ -7,7 +7,7 @@ use crate::POWER_LIMIT;
 use text::signed;
 use text::signed::Parts;
 
-#[derive(Drop)]
+#[derive(Clone, Copy)]
 pub enum Power {
     Of(Parts),
     Outside,

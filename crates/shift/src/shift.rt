@@ -9,7 +9,7 @@ use crate::numbers::swap;
 // stand in order; with all others inverted the order is turned round, so that adding to a value takes away from it. Elements of
 // one and two bytes, and of four by blocks, are shifted as numbers of 8, 16 and 32 bits, so that the compiler takes several at
 // once.
-#[derive(Drop)]
+#[derive(Clone, Copy)]
 pub struct Shift {
     pub inverted: u64,
     pub high: u64,

@@ -1,3 +1,5 @@
+#![tactic(auto)]
+
 // Where a block's array stands in its file, for callers that read, map or move those bytes themselves.
 ghost use Rattle.std.specs.Prelude.{◌≡◌, length};
 ghost use Rattle.description.specs.Valid.{ValidArray};
@@ -14,7 +16,7 @@ use scan::{Error, Span};
 
 // A block's array as it is stored: its description, the span of its bytes in the file, and whether these bytes are just those
 // that delivery in the order asked for would write.
-#[derive(Drop)]
+#[derive(Clone, Copy)]
 pub struct StoredArray {
     pub description: Description,
     pub span: Span,
@@ -22,7 +24,7 @@ pub struct StoredArray {
 }
 
 // The answer of looking for a stored array.
-#[derive(Drop)]
+#[derive(Clone, Copy)]
 pub enum Stored {
     Array(StoredArray),
     Failed(Error),

@@ -1,3 +1,5 @@
+#![tactic(auto)]
+
 // Text: whitespace, keys, values, whole numbers, escapes.
 pub mod buffer;
 pub mod decimal;
@@ -14,7 +16,7 @@ use scan::Error;
 pub const TEXT_LIMIT: usize = 1023;
 
 // The answer of a call that writes bytes into a lent buffer: how many.
-#[derive(Drop)]
+#[derive(Clone, Copy)]
 pub enum Written {
     Length(usize),
     Failed(Error),

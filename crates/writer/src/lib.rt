@@ -1,3 +1,5 @@
+#![tactic(auto)]
+
 // Writing a file of one block.
 
 pub mod file;

@@ -1,0 +1,15 @@
+-- `scan::find` meets its contract. The invariant: the search from where the loop stands answers what the whole search does.
+use mathlib.Core.Path.{◌≡◌, refl, sym, ◌∙◌}
+use Prim.Native.Nat.{◌-◌}
+use borrow.Author.Tests.{eq-eqb, ne_eqb}
+use lib.ListN.{length}
+use Rattle.scan.specs.Search.{first_from, is}
+use Rattle.scan.proofs.Searches.{search_end, search_hit, search_on}
+use borrow.Author.Rules.{rules}
+use Rattle.scan.proofs.find.Given as goal
+
+abbrev pub invariant-loop-i : goal.invariant-loop-i
+invariant-loop-i l = first_from (is l.b) l.s l.from ≡ first_from (is l.b) l.s l.i
+
+abbrev pub decreases-loop-i : goal.decreases-loop-i
+decreases-loop-i l = length l.s - l.i

@@ -1,0 +1,14 @@
+-- `text::buffer::write_bytes` meets its contract. What is left to write is the bytes from i on.
+use mathlib.Core.Path.{refl, ◌∙◌}
+use Prim.Native.Nat.{◌-◌, ◌≤◌}
+use native.Mathlib.Omega.{arith}
+use borrow.Author.Rules.{rules}
+use lib.ListN.{length, drop, drop_of_length-le}
+use Rattle.text.proofs.Buffers.{drop_next, Left, left_start, left_put, left_done, fits, short}
+use Rattle.text.proofs.buffer.write_bytes.Given as goal
+
+abbrev pub invariant-loop-i : goal.invariant-loop-i
+invariant-loop-i l = (l.i ≤ length l.bytes) × Left l.bytes l.initial.out l.out l.i (drop l.i l.bytes)
+
+abbrev pub decreases-loop-i : goal.decreases-loop-i
+decreases-loop-i l = length l.bytes - l.i

@@ -1,0 +1,14 @@
+-- `text::escape::all_text_bytes` meets its contract. The loop keeps the answer: that of the bytes from i on.
+use mathlib.Core.Path.{◌≡◌, refl, sym, ◌∙◌}
+use Prim.Native.Nat.{◌-◌, ◌≤◌}
+use borrow.Author.Rules.{rules}
+use lib.ListN.{length, drop}
+use Rattle.text.specs.Text.{every, text_byte}
+use Rattle.text.proofs.Escaping.{flipped, passes_here, fails_here, passed_all}
+use Rattle.text.proofs.escape.all_text_bytes.Given as goal
+
+abbrev pub invariant-loop-i : goal.invariant-loop-i
+invariant-loop-i l = (l.i ≤ length l.l) × (every text_byte (drop l.i l.l) ≡ every text_byte l.l)
+
+abbrev pub decreases-loop-i : goal.decreases-loop-i
+decreases-loop-i l = length l.l - l.i
