@@ -14,7 +14,8 @@ LOG = []
 
 
 def norm(name):
-    name = name.replace("_", "-")
+    name = name.replace("_", "-").lower()
+    name = re.sub(r"-lem(?=$|-?\d*$)", "", name)
     name = re.sub(r"^overflow-", "", name)
     name = re.sub(r"^slice-bounds-", "part-", name)
     return name.replace("loop-less", "loop-smaller").replace("loop-again", "loop-preserved").replace("loop-holds", "loop-init")
