@@ -153,6 +153,11 @@ class Function:
         self.places = entry["places"]
         self.arms = entry["arms"]
         self.bynames = entry["places_by_name"]
+        self.args = {}
+        for old, new in entry.get("args", []):
+            o, n = old.split(), new.split()
+            if len(o) == 2 and len(n) == 2 and o[0] in (".args", ".ranges"):
+                self.args[(o[0][1:], o[1][1:])] = (n[0][1:], n[1][1:])
 
     def chain(self, place):
         """Indexes of the places from here up."""
@@ -180,6 +185,9 @@ def path_of(fn, place, segs):
     if step in ("args", "requires", "ranges", "type_inv", "type-inv"):
         if step == "requires":
             tail = picked(tail, fn.requires)
+        if tail and (step, tail[0]) in fn.args:
+            step, first = fn.args[(step, tail[0])]
+            tail = [first] + tail[1:]
         return ["c", step.replace("-", "_")] + tail
     ks = list(range(b, len(chain))) + list(range(0, b))
     for k in ks:
