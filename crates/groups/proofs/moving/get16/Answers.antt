@@ -1,5 +1,4 @@
 -- `groups::moving::get16` meets its contract.
-use borrow.Author.Rules.{rules}
 use Rattle.octets.proofs.Octets.{reads_are}
 use Rattle.groups.proofs.moving.get16.Goals as goal
 
