@@ -132,6 +132,11 @@ def recorded(term, names):
         items = items[:-1] + last[1]
     if items and items[-1] == "tt" and len(items) == len(names) + 1:
         items = items[:-1]
+    if len(items) < len(names):
+        # the last part proves the remaining clauses together
+        n = len(names) - len(items) + 1
+        before += f"\n    let rest = {items[-1]} in "
+        items = items[:-1] + ["rest." + ".".join(["1"] * k + (["0"] if k < n - 1 else [])) for k in range(n)]
     if len(items) != len(names):
         LOG.append(f"  {len(items)} parts for {names}")
         return term
