@@ -189,6 +189,10 @@ def path_of(fn, place, segs):
     tail = rest[1:]
     if step in ("args", "requires", "ranges", "type_inv", "type-inv"):
         if step == "requires":
+            n = len(fn.requires)
+            if n > 1 and len(tail) < n - 1 and all(t == "1" for t in tail):
+                # several clauses at once: a tuple of the rest
+                return [nested([f"c.requires.{x}" for x in fn.requires[len(tail):]])]
             tail = picked(tail, fn.requires)
         if tail and (step, tail[0]) in fn.args:
             step, first = fn.args[(step, tail[0])]
@@ -214,8 +218,8 @@ def path_of(fn, place, segs):
                 if callee and tail and tail[0] == "ensures":
                     crate, rel = callee.split("::", 1)
                     names = clauses_of(crate, rel, "ensures")
-                    if len(names) > 1 and len(tail) == 1:
-                        return [nested(["c." + new + ".ensures." + n for n in names])]
+                    if len(names) > 1 and len(tail) < len(names) and all(t == "1" for t in tail[1:]):
+                        return [nested(["c." + new + ".ensures." + n for n in names[len(tail) - 1:]])]
                     tail = tail[:1] + picked(tail[1:], names)
                 if callee and tail and tail[0] == "new" and callee in fn.entry["params"] and len(tail) > 1 and tail[1].isdigit():
                     k, t = 0, tail[1:]
