@@ -17,6 +17,7 @@ def norm(name):
     name = name.replace("_", "-")
     name = re.sub(r"^overflow-", "", name)
     name = re.sub(r"^slice-bounds-", "part-", name)
+    name = re.sub(r"-lem$", "", name.lower()).replace("is-isbody", "is-body")
     return name.replace("loop-less", "loop-smaller").replace("loop-again", "loop-preserved").replace("loop-holds", "loop-init")
 
 
@@ -316,6 +317,8 @@ def convert(path, modpath, entry):
                             body = s
                 lets[i] = (local, typ, body)
                 i += 1
+        order = {local: list(macros).index(key[0]) for key, local in seen.items()}
+        lets.sort(key=lambda x: order[x[0]])
         out = ""
         for local, typ, body in lets:
             if typ.strip() == "!":
@@ -382,7 +385,8 @@ def convert(path, modpath, entry):
                 args.remove("κs")
             term = expand(unalias(term))
             term = rename_steps(term, fn, place)
-            term = re.sub(r"flipped _ (c\.)", r"\1", term)
+            called = {norm(x.split("::")[-1]) for x in entry["params"]}
+            term = re.sub(r"flipped _ (c\.if-not-([\w]+)(?:-\d+)?\.)", lambda m: m.group(1) if norm(m.group(2)) in called else m.group(0), term)
             if new.startswith("returns"):
                 term = recorded(term, ensures)
             elif "-requires" in new:
