@@ -7,13 +7,13 @@ use Rattle.header.proofs.check.answer.Goals as goal
 
 pub returns-then-not-short : goal.returns-then-not-short
 returns-then-not-short c =
-    c.refused.ensures ∙ answer_long c.args.short c.args.distinct _ (not-true c.args.short c.if-not-short.true)
+    c.refused.ensures ∙ answer_long c.args.short c.args.distinct _ (c.if-not-short.true)
 
 pub returns-then-not-distinct : goal.returns-then-not-distinct
 returns-then-not-distinct c =
     c.refused-then-not-distinct.ensures
-    ∙ answer_repeated c.args.short c.args.distinct _ (not-false c.args.short c.if-not-short.false) (not-true c.args.distinct c.if-not-distinct.true)
+    ∙ answer_repeated c.args.short c.args.distinct _ (c.if-not-short.false) (c.if-not-distinct.true)
 
 pub returns : goal.returns
 returns c =
-    answer_good c.args.short c.args.distinct _ (not-false c.args.short c.if-not-short.false) (not-false c.args.distinct c.if-not-distinct.false)
+    answer_good c.args.short c.args.distinct _ (c.if-not-short.false) (c.if-not-distinct.false)

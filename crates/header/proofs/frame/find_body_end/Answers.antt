@@ -20,7 +20,7 @@ pub loop-i-preserved : goal.loop-i-preserved
 loop-i-preserved c =
     c.loop-i.invariant
     ∙ search_past ends_body c.args.s.now c.loop-i.i (c.loop-i.i + 64) (omega arith) (omega arith)
-    (sym c.is_IsBody.ensures ∙ not-false c.is_IsBody.result c.if-not-is_body.false)
+    (sym c.is_body.ensures ∙ c.if-not-is_body.false)
 
 pub returns : goal.returns
 returns c = sym (c.loop-i.invariant ∙ search_end _ _ _ c.loop-i-test.false)

@@ -36,19 +36,19 @@ pub returns-in_default-closing_at : goal.returns-in_default-closing_at
 returns-in_default-closing_at c =
     let opening = sym c.opening_at.ensures ∙ c.in-At.is in
     let end = sym c.find_body_end.ensures ∙ c.in-At-find_body_end.is in
-    let none = sym c.Closing-at.ensures ∙ c.in_default-closing_at.is in
+    let none = sym c.closing_at.ensures ∙ c.in_default-closing_at.is in
     c.refused-in_default-closing_at.ensures ∙ sym (no_closing _ _ opening end c.if-s-right-ne125.false none)
 
 pub overflow_sub-length : goal.overflow_sub-length
 overflow_sub-length c =
     let opening = sym c.opening_at.ensures ∙ c.in-At.is in
     let end = sym c.find_body_end.ensures ∙ c.in-At-find_body_end.is in
-    let closing = sym c.Closing-at.ensures ∙ c.in-At-closing_at.is in
+    let closing = sym c.closing_at.ensures ∙ c.in-At-closing_at.is in
     omega (arith, opening_near _ _ opening, end_inside _ _ end, closing_near _ _ closing)
 
 pub returns : goal.returns
 returns c =
     let opening = sym c.opening_at.ensures ∙ c.in-At.is in
     let end = sym c.find_body_end.ensures ∙ c.in-At-find_body_end.is in
-    let closing = sym c.Closing-at.ensures ∙ c.in-At-closing_at.is in
+    let closing = sym c.closing_at.ensures ∙ c.in-At-closing_at.is in
     sym (closed _ _ opening end c.if-s-right-ne125.false closing)

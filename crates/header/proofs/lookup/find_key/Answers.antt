@@ -50,11 +50,11 @@ slice_bounds-same_key-end c =
 
 pub returns-then-same_key : goal.returns-then-same_key
 returns-then-same_key c =
+    let found : statement_at c.args.s.now c.loop-t.i ≡ One c.in-One.t = sym c.statement_at.ensures ∙ c.in-One.is in
     let lies : (c.loop-t.i < c.in-One.t.end)
     × (c.in-One.t.end < length c.args.s.now)
     × (c.in-One.t.first ≤ c.in-One.t.equals)
     × (c.in-One.t.equals < c.in-One.t.end) = statement-lies _ _ _ (found) in
-    let found : statement_at c.args.s.now c.loop-t.i ≡ One c.in-One.t = sym c.statement_at.ensures ∙ c.in-One.is in
     sym (c.loop-t.invariant
     ∙ first_hit _ _ _ _ found _ (part-key _ _ lies.2) (sym c.same_key.ensures ∙ c.if-same_key.true))
 
@@ -78,11 +78,11 @@ loop-t-smaller c =
 
 pub loop-t-preserved : goal.loop-t-preserved
 loop-t-preserved c =
+    let found : statement_at c.args.s.now c.loop-t.i ≡ One c.in-One.t = sym c.statement_at.ensures ∙ c.in-One.is in
     let lies : (c.loop-t.i < c.in-One.t.end)
     × (c.in-One.t.end < length c.args.s.now)
     × (c.in-One.t.first ≤ c.in-One.t.equals)
     × (c.in-One.t.equals < c.in-One.t.end) = statement-lies _ _ _ (found) in
-    let found : statement_at c.args.s.now c.loop-t.i ≡ One c.in-One.t = sym c.statement_at.ensures ∙ c.in-One.is in
     c.loop-t.invariant
     ∙ first_miss _ _ _ _ found _ (part-key _ _ lies.2)
     (sym c.same_key.ensures ∙ c.if-same_key.false)
