@@ -217,6 +217,8 @@ def path_of(fn, place, segs):
         old, new = fn.places[i][2]
         if old and norm(old) == norm(step):
             return ["c", new] + tail
+    if re.search(r"\d$", step):
+        return path_of(fn, place, segs[:b] + [re.sub(r"\d+$", "", step)] + tail)
     LOG.append(f"  step {'.'.join(segs)} at {place}")
     return ["c", step] + tail
 
@@ -383,6 +385,7 @@ def convert(path, modpath, entry):
                 LOG.append(f"  {name}: argument {args}")
             if "κs" in args and not re.search(r"(?<![\w'])κs", term):
                 args.remove("κs")
+            term = re.sub(r"(?<=\s)\((c(?:\.before)*)\)", r"\1", term)
             term = expand(unalias(term))
             term = rename_steps(term, fn, place)
             term = re.sub(r"(?:flipped _|not-true \S+|not-false \S+|not_true \S+|not_false \S+) (c\.if-not-[^\s()]+)", r"\1", term)

@@ -67,7 +67,7 @@ module _ (s : List ℕ) (a : ℕ) (inside : a ≤ length s) where
 
   pub entries_from_lem : (h : Header) (ts : List Statement)
       → entries (body_of s (moved_header a h)) (map (moved_statement a) ts) ≡ map (moved_entry a) (entries (body_of (drop a s) h) ts)
-  entries_from_lem = Offsets.entries_from s a inside
+  entries_from_lem = Offsets.entries_from_lem s a inside
 
   pub block_from : (given : FileRules) (first : Bool) → block_at s given first a ≡ moved_outcome a (moved_accepted a) (block_at (drop a s) given first 0)
   block_from = Offsets.block_from s a inside
