@@ -125,6 +125,7 @@ def main():
     for p in files():
         text = open(p, encoding="utf-8").read()
         aliases = set(re.findall(r"^(?:ghost )?use [^\n]* as ([\w-]+);?$", text, re.M)) - {"tie"}
+        aliases |= set(re.findall(r"^(?:ghost )?use [\w.]*\.(\w+);?$", text, re.M))
 
         def sub(m):
             w = m.group(0)
