@@ -388,8 +388,7 @@ def convert(path, modpath, entry):
                 args.remove("κs")
             term = expand(unalias(term))
             term = rename_steps(term, fn, place)
-            called = {norm(x.split("::")[-1]) for x in entry["params"]}
-            term = re.sub(r"flipped _ (c\.if-not-([\w]+)(?:-\d+)?\.)", lambda m: m.group(1) if norm(m.group(2)) in called else m.group(0), term)
+            term = re.sub(r"(?:flipped _|not-true \S+|not-false \S+|not_true \S+|not_false \S+) (c\.if-not-[^\s()]+)", r"\1", term)
             if new.startswith("returns"):
                 term = recorded(term, ensures)
             elif "-requires" in new:
