@@ -295,16 +295,17 @@ def convert(path, modpath, entry):
                     term = re.sub(r"\(" + re.escape(seen[key]) + r"\)", seen[key], term)
                     changed = True
                     m = pat.search(term)
-            # inside the lets too
-            i = 0
-            while i < len(lets):
-                local, typ, body = lets[i]
-                for name, (mt, mb) in macros.items():
-                    pat = re.compile(r"(?<![\w'.-])" + re.escape(name) + r" (c(?:\.before)*)(?![\w'.-])")
-                    for which in (0, 1):
-                        s = (typ, body)[which]
-                        m = pat.search(s)
-                        while m:
+            # inside the lets too, until nothing is left
+            while True:
+                found = False
+                for i, (local, typ, body) in enumerate(lets):
+                    for name, (mt, mb) in macros.items():
+                        pat = re.compile(r"(?<![\w'.-])" + re.escape(name) + r" (c(?:\.before)*)(?![\w'.-])")
+                        for which, s in ((0, typ), (1, body)):
+                            m = pat.search(s)
+                            if not m:
+                                continue
+                            found = True
                             key = (name, m.group(1))
                             if key not in seen:
                                 nm = name if not any(k[0] == name for k in seen) else f"{name}-{len(seen)}"
@@ -312,13 +313,15 @@ def convert(path, modpath, entry):
                                 lets.insert(0, (nm, shifted(mt, m.group(1)), shifted(mb, m.group(1))))
                                 i += 1
                             s = s[: m.start()] + seen[key] + s[m.end():]
-                            m = pat.search(s)
-                        if which == 0:
-                            typ = s
-                        else:
-                            body = s
-                lets[i] = (local, typ, body)
-                i += 1
+                            s = re.sub(r"\(" + re.escape(seen[key]) + r"\)", seen[key], s)
+                            lets[i] = (local, s, body) if which == 0 else (local, typ, s)
+                            break
+                        if found:
+                            break
+                    if found:
+                        break
+                if not found:
+                    break
         order = {local: list(macros).index(key[0]) for key, local in seen.items()}
         lets.sort(key=lambda x: order[x[0]])
         out = ""
