@@ -129,6 +129,8 @@ def main():
 
         def sub(m):
             w = m.group(0)
+            if p.endswith(".rt") and not re.search(r"[a-z][A-Z]|-", w):
+                return w
             before = text[m.start() - 1] if m.start() else " "
             if before == "." and w not in fields:
                 prefix = re.search(r"([\w-]+)\.$", text[max(0, m.start() - 40): m.start()])
