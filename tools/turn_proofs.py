@@ -244,7 +244,7 @@ def unalias(term):
         name, path = m.group(1), m.group(2)
         rest = term[m.end():]
         rest = re.sub(r"(?<![\w'.-])" + re.escape(name) + r"(?=\.)", path, rest)
-        rest = re.sub(r"(?<![\w'.-])" + re.escape(name) + r"(?![\w'.-])", path, rest)
+        rest = re.sub(r"(?<![\w'.-])" + re.escape(name) + r"(?![\w'.-]| = )", path, rest)
         term = term[: m.start()] + rest
 
 
