@@ -14,7 +14,8 @@ LOG = []
 
 
 def norm(name):
-    name = name.replace("_", "-")
+    name = name.replace("_", "-").lower()
+    name = re.sub(r"-lem(?=$|-?\d*$)", "", name)
     name = re.sub(r"^overflow-", "", name)
     name = re.sub(r"^slice-bounds-", "part-", name)
     name = re.sub(r"-lem$", "", name.lower()).replace("is-isbody", "is-body")
@@ -132,6 +133,11 @@ def recorded(term, names):
         items = items[:-1] + last[1]
     if items and items[-1] == "tt" and len(items) == len(names) + 1:
         items = items[:-1]
+    if len(items) < len(names):
+        # the last part proves the remaining clauses together
+        n = len(names) - len(items) + 1
+        before += f"\n    let rest = {items[-1]} in "
+        items = items[:-1] + ["rest." + ".".join(["1"] * k + (["0"] if k < n - 1 else [])) for k in range(n)]
     if len(items) != len(names):
         LOG.append(f"  {len(items)} parts for {names}")
         return term
@@ -153,6 +159,11 @@ class Function:
         self.places = entry["places"]
         self.arms = entry["arms"]
         self.bynames = entry["places_by_name"]
+        self.args = {}
+        for old, new in entry.get("args", []):
+            o, n = old.split(), new.split()
+            if len(o) == 2 and len(n) == 2 and o[0] in (".args", ".ranges"):
+                self.args[(o[0][1:], o[1][1:])] = (n[0][1:], n[1][1:])
 
     def chain(self, place):
         """Indexes of the places from here up."""
@@ -179,7 +190,14 @@ def path_of(fn, place, segs):
     tail = rest[1:]
     if step in ("args", "requires", "ranges", "type_inv", "type-inv"):
         if step == "requires":
+            n = len(fn.requires)
+            if n > 1 and len(tail) < n - 1 and all(t == "1" for t in tail):
+                # several clauses at once: a tuple of the rest
+                return [nested([f"c.requires.{x}" for x in fn.requires[len(tail):]])]
             tail = picked(tail, fn.requires)
+        if tail and (step, tail[0]) in fn.args:
+            step, first = fn.args[(step, tail[0])]
+            tail = [first] + tail[1:]
         return ["c", step.replace("-", "_")] + tail
     ks = list(range(b, len(chain))) + list(range(0, b))
     for k in ks:
@@ -201,8 +219,8 @@ def path_of(fn, place, segs):
                 if callee and tail and tail[0] == "ensures":
                     crate, rel = callee.split("::", 1)
                     names = clauses_of(crate, rel, "ensures")
-                    if len(names) > 1 and len(tail) == 1:
-                        return [nested(["c." + new + ".ensures." + n for n in names])]
+                    if len(names) > 1 and len(tail) < len(names) and all(t == "1" for t in tail[1:]):
+                        return [nested(["c." + new + ".ensures." + n for n in names[len(tail) - 1:]])]
                     tail = tail[:1] + picked(tail[1:], names)
                 if callee and tail and tail[0] == "new" and callee in fn.entry["params"] and len(tail) > 1 and tail[1].isdigit():
                     k, t = 0, tail[1:]

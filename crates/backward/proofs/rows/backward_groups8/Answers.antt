@@ -1,0 +1,34 @@
+use mathlib.Core.Path.{refl, ap, ◌∙◌}
+use native.Mathlib.Omega.{arith}
+use borrow.Author.Rules.{rules}
+use Rattle.raster.specs.Bytes.{joined}
+use Rattle.raster.specs.Strided.{row_of}
+use Rattle.groups.specs.Exchanged.{exchanged}
+use Rattle.strides.proofs.RowLaws.{row_more, row_done}
+use Rattle.backward.proofs.BackwardLaws.{exchanged_keeps}
+use Rattle.backward.proofs.rows.backward_groups8.Goals as goal
+
+pub loop-i-init : goal.loop-i-init
+unfolding row_of joined
+loop-i-init c = (search rules, refl, refl)
+
+pub spot-p-requires : goal.spot-p-requires
+spot-p-requires c = c.requires.inside _ c.loop-i-test.true
+
+pub get16-requires : goal.get16-requires
+get16-requires c = c.spot-p.ensures.1
+
+pub loop-i-preserved : goal.loop-i-preserved
+loop-i-preserved c = (
+  omega arith,
+  c.out-1.given ∙ c.loop-i.invariant.1,
+  c.put16.ensures
+      ∙ row_more (exchanged 8) 16 (exchanged_keeps 8 2 refl) c.args.src.now _ _ _ _ c.requires.inside c.loop-i.i c.spot-p.result c.args.out.now _ _
+      c.loop-i-test.true c.spot-p.ensures.0 c.loop-i.invariant.2
+      (c.exchange8.ensures ∙ ap (exchanged 8) c.get16.ensures),
+)
+
+pub returns : goal.returns
+returns c =
+    row_done (exchanged 8) 16 (exchanged_keeps 8 2 refl) c.args.src.now _ _ _ _ c.requires.inside c.loop-i.i c.args.out.now _
+    c.loop-i.invariant.0 c.loop-i-test.false c.requires.out_len c.loop-i.invariant.2

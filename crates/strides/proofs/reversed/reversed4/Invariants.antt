@@ -1,0 +1,14 @@
+-- `strides::reversed::reversed4` meets its contract. The invariant: the first i elements are written.
+use mathlib.Core.Path.{◌≡◌}
+use mathlib.Core.Bool.{true}
+use Prim.Native.Nat.{◌-◌, ◌≤◌}
+use lib.ListN.{length}
+use Rattle.scan.specs.Buffer.{over}
+use Rattle.raster.specs.Strided.{turned, row_of}
+use Rattle.strides.proofs.reversed.reversed4.Given as goal
+
+abbrev pub invariant-loop-i : goal.invariant-loop-i
+invariant-loop-i l = (l.i ≤ l.n) × (length l.out ≡ length l.initial.out) × (l.out ≡ over (row_of (turned true) 4 l.src l.at l.up l.down l.i) l.initial.out)
+
+abbrev pub decreases-loop-i : goal.decreases-loop-i
+decreases-loop-i l = l.n - l.i
