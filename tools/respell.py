@@ -125,9 +125,12 @@ def main():
     for p in files():
         text = open(p, encoding="utf-8").read()
         aliases = set(re.findall(r"^(?:ghost )?use [^\n]* as ([\w-]+);?$", text, re.M)) - {"tie"}
+        aliases |= set(re.findall(r"^(?:ghost )?use [\w.]*\.(\w+);?$", text, re.M))
 
         def sub(m):
             w = m.group(0)
+            if p.endswith(".rt") and not re.search(r"[a-z][A-Z]|-", w):
+                return w
             before = text[m.start() - 1] if m.start() else " "
             if before == "." and w not in fields:
                 prefix = re.search(r"([\w-]+)\.$", text[max(0, m.start() - 40): m.start()])

@@ -18,6 +18,7 @@ def norm(name):
     name = re.sub(r"-lem(?=$|-?\d*$)", "", name)
     name = re.sub(r"^overflow-", "", name)
     name = re.sub(r"^slice-bounds-", "part-", name)
+    name = re.sub(r"-lem$", "", name.lower()).replace("is-isbody", "is-body")
     return name.replace("loop-less", "loop-smaller").replace("loop-again", "loop-preserved").replace("loop-holds", "loop-init")
 
 
@@ -234,6 +235,8 @@ def path_of(fn, place, segs):
         old, new = fn.places[i][2]
         if old and norm(old) == norm(step):
             return ["c", new] + tail
+    if re.search(r"\d$", step):
+        return path_of(fn, place, segs[:b] + [re.sub(r"\d+$", "", step)] + tail)
     LOG.append(f"  step {'.'.join(segs)} at {place}")
     return ["c", step] + tail
 
@@ -259,7 +262,7 @@ def unalias(term):
         name, path = m.group(1), m.group(2)
         rest = term[m.end():]
         rest = re.sub(r"(?<![\w'.-])" + re.escape(name) + r"(?=\.)", path, rest)
-        rest = re.sub(r"(?<![\w'.-])" + re.escape(name) + r"(?![\w'.-])", path, rest)
+        rest = re.sub(r"(?<![\w'.-])" + re.escape(name) + r"(?![\w'.-]| = )", path, rest)
         term = term[: m.start()] + rest
 
 
@@ -310,16 +313,17 @@ def convert(path, modpath, entry):
                     term = re.sub(r"\(" + re.escape(seen[key]) + r"\)", seen[key], term)
                     changed = True
                     m = pat.search(term)
-            # inside the lets too
-            i = 0
-            while i < len(lets):
-                local, typ, body = lets[i]
-                for name, (mt, mb) in macros.items():
-                    pat = re.compile(r"(?<![\w'.-])" + re.escape(name) + r" (c(?:\.before)*)(?![\w'.-])")
-                    for which in (0, 1):
-                        s = (typ, body)[which]
-                        m = pat.search(s)
-                        while m:
+            # inside the lets too, until nothing is left
+            while True:
+                found = False
+                for i, (local, typ, body) in enumerate(lets):
+                    for name, (mt, mb) in macros.items():
+                        pat = re.compile(r"(?<![\w'.-])" + re.escape(name) + r" (c(?:\.before)*)(?![\w'.-])")
+                        for which, s in ((0, typ), (1, body)):
+                            m = pat.search(s)
+                            if not m:
+                                continue
+                            found = True
                             key = (name, m.group(1))
                             if key not in seen:
                                 nm = name if not any(k[0] == name for k in seen) else f"{name}-{len(seen)}"
@@ -327,24 +331,17 @@ def convert(path, modpath, entry):
                                 lets.insert(0, (nm, shifted(mt, m.group(1)), shifted(mb, m.group(1))))
                                 i += 1
                             s = s[: m.start()] + seen[key] + s[m.end():]
-                            m = pat.search(s)
-                        if which == 0:
-                            typ = s
-                        else:
-                            body = s
-                lets[i] = (local, typ, body)
-                i += 1
-        # a let that cites a later one goes after it
-        ordered, left = [], list(lets)
-        while left:
-            for x in left:
-                if not any(y is not x and re.search(r"(?<![\w'.-])" + re.escape(y[0]) + r"(?![\w'-])", x[1] + " " + x[2]) for y in left):
+                            s = re.sub(r"\(" + re.escape(seen[key]) + r"\)", seen[key], s)
+                            lets[i] = (local, s, body) if which == 0 else (local, typ, s)
+                            break
+                        if found:
+                            break
+                    if found:
+                        break
+                if not found:
                     break
-            else:
-                x = left[0]
-            left.remove(x)
-            ordered.append(x)
-        lets = ordered
+        order = {local: list(macros).index(key[0]) for key, local in seen.items()}
+        lets.sort(key=lambda x: order[x[0]])
         out = ""
         for local, typ, body in lets:
             if typ.strip() == "!":
@@ -409,9 +406,10 @@ def convert(path, modpath, entry):
                 LOG.append(f"  {name}: argument {args}")
             if "κs" in args and not re.search(r"(?<![\w'])κs", term):
                 args.remove("κs")
+            term = re.sub(r"(?<=\s)\((c(?:\.before)*)\)", r"\1", term)
             term = expand(unalias(term))
             term = rename_steps(term, fn, place)
-            term = re.sub(r"flipped _ (c\.)", r"\1", term)
+            term = re.sub(r"(?:flipped _|not-true \S+|not-false \S+|not_true \S+|not_false \S+) (c\.if-not-[^\s()]+)", r"\1", term)
             if new.startswith("returns"):
                 term = recorded(term, ensures)
             elif "-requires" in new:

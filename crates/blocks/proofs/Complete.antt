@@ -23,7 +23,7 @@ use Rattle.blocks.proofs.BlockLaws.{block-complete, block-error-complete}
 use Rattle.blocks.proofs.BlockPlaces.{first, later, block_inside, spaced_inside, spaced_next, block_named}
 use Rattle.blocks.proofs.Coded.{kind_number, coded, Asking}
 use Rattle.blocks.proofs.FirstLaws.{first_at, first_start_lem}
-use Rattle.blocks.proofs.Gaps.{next_start, gap-next}
+use Rattle.blocks.proofs.Gaps.{next_start_lem, gap-next}
 use Rattle.blocks.proofs.Identities.{AllNamed, repeats_decides, distinct_middle, member_left, member_middle}
 use Rattle.blocks.proofs.Sound.{count_decides, ended_decides, none_repeated, no_rules, no_rules_asking, after_none}
 use Rattle.blocks.proofs.Sound.{passed_asking, passed_named, passed_past, passed_inside, not_first}
@@ -38,7 +38,7 @@ module _ (s : List ℕ) where
   after_some : {kind : Kind} (rows : List Row) {end at : ℕ} → 1 ≤ length rows → end ≤ length s → NextAt s kind end at
       → start_after s (length rows) (kind_number kind) end ≡ at
   unfolding start_after
-  after_some rows some h x = rw (ne_eqb (length rows) 0 (λ z. omega arith)) (next_start s h x)
+  after_some rows some h x = rw (ne_eqb (length rows) 0 (λ z. omega arith)) (next_start_lem s h x)
 
   -- Where a block stands the file goes on.
   start_open : {r : Rules} {end next : ℕ} {row : Row} → SpacedBlock s r end row next → row.start ≢ length s

@@ -75,8 +75,8 @@ module _ (s : List ℕ) where
   start-next kind_1 end h = visible-next end h
   start-next kind_2 end h = record { gap = no_gap end; visible = λ q. absurd (kinds_differ (sym q)) }
 
-  pub next_start : {kind : Kind} {end at : ℕ} → end ≤ length s → NextAt s kind end at → next_start s (kind_number kind) end ≡ at
-  next_start {kind} {end} h x = next_unique (start-next kind end h) x
+  pub next_start_lem : {kind : Kind} {end at : ℕ} → end ≤ length s → NextAt s kind end at → next_start s (kind_number kind) end ≡ at
+  next_start_lem {kind} {end} h x = next_unique (start-next kind end h) x
 
   pub next-inside : {kind : Kind} {end at : ℕ} → end ≤ length s → NextAt s kind end at → at ≤ length s
   next-inside {at = at} h x =

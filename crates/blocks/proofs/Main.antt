@@ -89,11 +89,11 @@ module _ (s : List ℕ) where
 
   -- Any two partitions of one file are equal, with every field of every row.
   pub one_partition : {rows others : List Row} → Partition s rows → Partition s others → rows ≡ others
-  one_partition = Unambiguous.partition-unique
+  one_partition = Unambiguous.partition_unique
 
   -- And so are any two cuts, given by start, header length and data length alone.
   pub one_cut : {blocks others : List Block} → Cut s blocks → Cut s others → blocks ≡ others
-  one_cut = Unambiguous.cut-unique
+  one_cut = Unambiguous.cut_unique
 
   -- Every header of a cut has a parse.
   pub has_parse : {blocks : List Block} → Cut s blocks → {b : Block} → Memᴰ b blocks → BlockHeader s b
@@ -103,7 +103,7 @@ module _ (s : List ℕ) where
 
   -- Opening gives rows exactly if these are a partition of the file: its count of blocks, its rows, every field.
   pub accepts : {rows : List Row} → (opened s ≡ ok rows) ↔ Partition s rows
-  accepts = (Sound.opened-sound s, Complete.opened-complete s)
+  accepts = (Sound.opened-sound s, Complete.opened_complete s)
 
   -- So does the call, for a file of at most 1,073,741,824 bytes.
   pub accepts_file : length s ≤ 1073741824 → {rows : List Row} → (opened_file s ≡ ok rows) ↔ Partition s rows
@@ -119,16 +119,16 @@ module _ (s : List ℕ) where
 
   -- Each code with its position is given exactly in its case: that of the first block that fails, as `FileError` states it.
   pub errors : {e : Error} → (opened s ≡ failed e) ↔ FileError s e
-  errors = (Sound.error-sound s, Complete.error-complete s)
+  errors = (Sound.error-sound s, Complete.error_complete s)
 
   -- 11 "in kind 2 only": its first header starts with an EDF_ key.
   pub length_errors : {e : Error} → FileError s e → e.code ≡ 11 → HeadsKind2 s
-  length_errors = KindErrors.length-error
+  length_errors = KindErrors.length_error
 
   -- The first header, where it proves kind 2: "3 at 0 comes where no start pattern stands at 0, then 5 at 0 where pattern and header
   -- together pass 65,536", and nothing else is wrong with its frame.
   pub first_of_kind_2 : {at : ℕ} → NextAt s kind_1 0 at → (p : ProvesKind2 s at) → {e : Error} → FrameError s 0 e ↔ ZeroFrameError s at p.header e
-  first_of_kind_2 n p = FirstErrors.zero-frame n p
+  first_of_kind_2 n p = FirstErrors.zero_frame n p
 
   -- ---- Nothing is invented
 
@@ -142,11 +142,11 @@ module _ (s : List ℕ) where
 
   -- Every position lies in the file or is its length.
   pub error_inside : {e : Error} → FileError s e → Bounded s e
-  error_inside = Errors.error-bounded
+  error_inside = Errors.error_bounded
 
   -- A statement lies inside its header, and its value's span inside the statement.
   pub statement_inside : {h : Header} {ts : List Statement} {t : Statement} → Parse s h ts → Memᴰ t ts → InHeader s h t
-  statement_inside = Spans.statement-in-header
+  statement_inside = Spans.statement_in_header
 
   -- ---- For later proofs
 

@@ -55,14 +55,14 @@ module _ {s : List ℕ} {rows : List Row} {row : Row} where
     dims_default n = go f.dims_are f.n_is f.dim1_is
       where
         go : {ds : List ℕ} → DimsAre s rows row ds → d.n ≡ length ds → d.dim1 ≡ get_or ds 0 1 → (d.n ≡ 1) × (d.dim1 ≡ 0)
-        go (DimsAre.None-found m) p q = (p, q)
+        go (DimsAre.none_found m) p q = (p, q)
         go (DimsAre.some-found (DimsFound.found h w low high rest)) p q = absurd (n _ h)
 
     dim1-value : (v : List ℕ) → FieldHas s rows row (ascii "Dim_1") v → IsWhole v (pos d.dim1)
     dim1-value v h = go f.dims_are f.dim1_is
       where
         go : {ds : List ℕ} → DimsAre s rows row ds → d.dim1 ≡ get_or ds 0 1 → IsWhole v (pos d.dim1)
-        go (DimsAre.None-found m) q = absurd (m v h)
+        go (DimsAre.none_found m) q = absurd (m v h)
         go (DimsAre.some-found (DimsFound.found {v = w} k a low high rest)) q = rw (q, sym (one_field w v k h)) a
 
     pub takes_defaults : TakesDefaults (λ name o. Absent (FieldHas s rows row name)) d

@@ -1,6 +1,6 @@
 -- Searching for the end of a body many bytes at a time: bytes that may all stand in it are passed over.
 use mathlib.Core.Path.{◌≡◌, refl, sym, ap, ◌∙◌}
-use mathlib.Core.Bool.{Bool, true, false, not, ◌&&◌, and_true, and_assoc}
+use mathlib.Core.Bool.{Bool, true, false, not, ◌&&◌, and-true, and_assoc}
 use mathlib.Core.List.{List}
 use Prim.Native.Nat.{ℕ, zero, suc, ◌+◌, ◌-◌, ◌≤◌, ◌<◌}
 use native.Mathlib.Numerals.{add-one}
@@ -17,7 +17,7 @@ use Rattle.text.specs.Text.{every}
 
 module _ (p : ℕ → Bool) (l : List ℕ) (i : ℕ) (r : Bool) {e : Bool} (h : e ≡ (r && every p (drop i l))) where
   pub tested_all : length l ≤ i → r ≡ e
-  tested_all out = sym (h ∙ rw (drop_of_length-le l out) (and_true r))
+  tested_all out = sym (h ∙ rw (drop_of_length-le l out) (and-true r))
 
   pub tested_more : {q : Bool} → i < length l → q ≡ p (byte l i) → e ≡ ((r && q) && every p (drop (i + 1) l))
   tested_more {q} inside here =

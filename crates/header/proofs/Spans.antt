@@ -23,7 +23,7 @@ module _ (s : List ℕ) where
   statement_member {at} {t} (u ∷ us) c m =
       ⊎_elim
       (λ e. rw e (omega (arith, c.1.starts), c.1.is, (statement_inside s c.1).1))
-      (λ n. let r = statement_member us c.2 n in
+      (λ n. let r = statement_member {at = c.0} us c.2 n in
       (omega (arith, r.0, statement_inside s c.1, c.1.ends), r.1, r.2))
       (Memᴰ.cases_cons m)
 

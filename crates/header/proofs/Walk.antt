@@ -1,6 +1,6 @@
 -- The walk over a header's statements that makes all checks: its turns, and its answers.
 use mathlib.Core.Path.{◌≡◌, refl, sym, ap, ◌∙◌}
-use mathlib.Core.Bool.{Bool, true, false, not, ◌&&◌, ◌||◌, and_true, and-false, and_assoc, or-false, or_assoc, not-not}
+use mathlib.Core.Bool.{Bool, true, false, not, ◌&&◌, ◌||◌, and-true, and-false, and_assoc, or-false, or_assoc, not-not}
 use mathlib.Core.List.Memᴰ
 use mathlib.Core.List.{List, [], ◌∷◌, ◌++◌, map}
 use Prim.Native.Nat.{ℕ, suc, ◌+◌}
@@ -26,7 +26,7 @@ use Rattle.header.proofs.StatementLaws.{EndToEnd, statements_are, statements-non
 -- ---- One more at the end of a list
 
 every_more : {A : Type 0} (p : A → Bool) (xs : List A) (x : A) → every p (xs ++ (x ∷ [])) ≡ (every p xs && p x)
-every_more p [] x = and_true (p x)
+every_more p [] x = and-true (p x)
 every_more p (y ∷ xs) x = ap (λ (b : Bool). p y && b) (every_more p xs x) ∙ sym (and_assoc (p y) (every p xs) (p x))
 
 among_more : (j : List ℕ) (ks : List (List ℕ)) (k : List ℕ) → among j (ks ++ (k ∷ [])) ≡ (among j ks || same j k)

@@ -22,7 +22,7 @@ fn up_to(s: &[u8], end: usize) -> &[u8]
 }
 
 // The value of a key in one header.
-fn value_in_lem(file: &[u8], h: Header, key: &[u8]) -> Value
+fn value_in(file: &[u8], h: Header, key: &[u8]) -> Value
     ensures result_value { value_span result ≡ entry_span (key_of key.now) (header_entries file.now h) }
     ensures result_value_2 { value_bytes file.now result ≡ entry_value (key_of key.now) (header_entries file.now h) }
 {
@@ -52,7 +52,7 @@ fn nowhere() -> Traced
 pub fn trace(file: &[u8], b: Block, key: &[u8]) -> Traced
     ensures { trace_of file.now result ≡ trace_in (view_at file.now b) key.now }
 {
-    match value_in_lem(file, b.own, key) {
+    match value_in(file, b.own, key) {
         Value::At(p) => Traced {
             value: Value::At(p),
             origin: Origin::Own,
@@ -64,7 +64,7 @@ pub fn trace(file: &[u8], b: Block, key: &[u8]) -> Traced
             if is_edf_key(key) {
                 return nowhere();
             }
-            match value_in_lem(file, b.general, key) {
+            match value_in(file, b.general, key) {
                 Value::At(p) => Traced {
                     value: Value::At(p),
                     origin: Origin::General,

@@ -35,6 +35,7 @@ record Counterpart (ds : List Entry) (n : ℕ) (e : Entry) : Type 0 where
   value_is : entry.value ≡ e.value
 
 counterpart : {es ds : List Entry} {n : ℕ} {e : Entry} → Alike es ds → EntryAt es n e → Counterpart ds n e
+counterpart {n = n} {e = e} nothing x4 = elim x4 [ ]
 counterpart (more {y = y} k v a) here = record { entry = y; at = here; key_is = sym k; value_is = sym v }
 counterpart (more k v a) (later at) =
     let c = counterpart a at in

@@ -33,24 +33,24 @@ use Rattle.locality.proofs.StatementShift
 
 module _ (p s : List ℕ) where
   pub header_shift : (at : ℕ) → header_at (p ++ s) (length p + at) ≡ moved_outcome (length p) (moved_header (length p)) (header_at s at)
-  header_shift = FrameShift.header-shift p s
+  header_shift = FrameShift.header_shift p s
 
   pub statements_shift : (start : ℕ) (h : Header)
       → statements_of (p ++ s) (length p + start) (moved_header (length p) h) ≡ moved_outcome (length p) (map (moved_statement (length p))) (statements_of s start h)
-  statements_shift = StatementShift.statements-of-shift p s
+  statements_shift = StatementShift.statements_of_shift p s
 
   pub entries_shift : (h : Header) (ts : List Statement)
       → entries (body_of (p ++ s) (moved_header (length p) h)) (map (moved_statement (length p)) ts) ≡ map (moved_entry (length p)) (entries (body_of s h) ts)
-  entries_shift = HeaderUp.entries-up p s
+  entries_shift = HeaderUp.entries_up p s
 
   pub block_shift : (given : FileRules) (first : Bool) (at : ℕ)
       → block_at (p ++ s) given first (length p + at) ≡ moved_outcome (length p) (moved_accepted (length p)) (block_at s given first at)
-  block_shift = BlockShift.block-shift p s
+  block_shift = BlockShift.block_shift p s
 
   -- By the grammar: a header, and a data block.
   pub header_behind : {at : ℕ} {h : Header} {ts : List Statement} {es : List Entry} → HasHeader s at h ts es
       → HasHeader (p ++ s) (length p + at) (moved_header (length p) h) (map (moved_statement (length p)) ts) (map (moved_entry (length p)) es)
-  header_behind = HeaderUp.has-up p s
+  header_behind = HeaderUp.has_up p s
 
   pub block_behind : {r : Rules} {at next : ℕ} {row : Row} → row.kind ≡ 1 → IsBlock s r at row next
       → IsBlock (p ++ s) r (length p + at) (moved_row (length p) row) (length p + next)
@@ -60,17 +60,17 @@ module _ (p s : List ℕ) where
 
 module _ (s : List ℕ) (a : ℕ) (inside : a ≤ length s) where
   pub header_from : header_at s a ≡ moved_outcome a (moved_header a) (header_at (drop a s) 0)
-  header_from = Offsets.header-from s a inside
+  header_from = Offsets.header_from s a inside
 
   pub statements_from_lem : (h : Header) → statements_of s a (moved_header a h) ≡ moved_outcome a (map (moved_statement a)) (statements_of (drop a s) 0 h)
-  statements_from_lem = Offsets.statements-from s a inside
+  statements_from_lem = Offsets.statements_from_lem s a inside
 
   pub entries_from_lem : (h : Header) (ts : List Statement)
       → entries (body_of s (moved_header a h)) (map (moved_statement a) ts) ≡ map (moved_entry a) (entries (body_of (drop a s) h) ts)
-  entries_from_lem = Offsets.entries_from s a inside
+  entries_from_lem = Offsets.entries_from_lem s a inside
 
   pub block_from : (given : FileRules) (first : Bool) → block_at s given first a ≡ moved_outcome a (moved_accepted a) (block_at (drop a s) given first 0)
-  block_from = Offsets.block-from s a inside
+  block_from = Offsets.block_from s a inside
 
 -- As many bytes as hold a header are enough.
 pub header_alone : {s : List ℕ} {a : ℕ} {h : Header} {ts : List Statement} {es : List Entry} → HasHeader s a h ts es → (m : ℕ) → h.length ≤ m
@@ -81,12 +81,12 @@ header_alone = Alone.header_alone
 
 -- They are accepted, with the rows of the first and those of the second with their starts moved by the first file's length.
 pub files_joined : (s t : List ℕ) {rows others : List Row} → Joinable s t rows others → AcceptedFile (s ++ t) (joined_rows (length s) rows others)
-files_joined = Joined.files-joined
+files_joined = Joined.files_joined
 
 -- A file is of kind 1 if its table has a data block without an identity.
 pub kind_by_row : {s : List ℕ} {rows : List Row} → Partition s rows → {row : Row} → Memᴰ row rows → row.kind ≡ 1 → row.instance ≡ 0
     → OfKind kind_1 s
-kind_by_row = KindLaws.kind-by-row
+kind_by_row = KindLaws.kind_by_row
 
 -- ---- A block as a file of its own
 

@@ -8,7 +8,6 @@ use native.Mathlib.Omega.{arith}
 use lib.IntN.{ℤ, pos, ◌-ℤ◌}
 use lib.ListN.{length}
 use Rattle.scan.specs.Byte.{ascii, same}
-use Rattle.scan.specs.Search.{is}
 use Rattle.lexical.specs.Whole.{Digits}
 use Rattle.lexical.proofs.WholeLaws.{natural_complete, whole_complete}
 use Rattle.reals.specs.Form.{IsSign, IsDecimal, plain, pointed, IsExponent, given, IsMeasure, metres, degrees, radians, Pieces, Parse}

@@ -48,6 +48,10 @@ flat m e a p = sym (mul-one (m * up e)) ∙ p
 -- Two whole numbers held exactly, multiplied: their product, rounded once.
 pub mul_whole : (f : Format) (x y : Float) (a b : ℕ) → Holds x false a → Holds y false b → mul f x y ≡ round f false (a * b) 1
 unfolding mul
+mul_whole f lib.Ieee.nan y a b p q = elim p [ ]
+mul_whole f (inf _) y a b p q = elim p [ ]
+mul_whole f (fin false m e) lib.Ieee.nan a b p q = elim q [ ]
+mul_whole f (fin false m e) (inf _) a b p q = elim q [ ]
 mul_whole f (fin true m e) y a b p q = absurd (true≢false p.0)
 mul_whole f (fin false m e) (fin true n d) a b p q = absurd (true≢false q.0)
 mul_whole f (fin false m e) (fin false n d) a b p q =
@@ -61,6 +65,10 @@ some n d b B q = first_pos n (up d) (subst (λ (z : ℕ). 0 < z) (sym q) (mul-po
 -- Two whole numbers held exactly, divided: their quotient, rounded once.
 pub div_whole : (f : Format) (x y : Float) (a b : ℕ) → 0 < b → Holds x false a → Holds y false b → div f x y ≡ round f false a b
 unfolding div
+div_whole f lib.Ieee.nan y a b B p q = elim p [ ]
+div_whole f (inf _) y a b B p q = elim p [ ]
+div_whole f (fin false m e) lib.Ieee.nan a b B p q = elim q [ ]
+div_whole f (fin false m e) (inf _) a b B p q = elim q [ ]
 div_whole f (fin true m e) y a b B p q = absurd (true≢false p.0)
 div_whole f (fin false m e) (fin true n d) a b B p q = absurd (true≢false q.0)
 div_whole f (fin false m e) (fin false n d) a b B p q =

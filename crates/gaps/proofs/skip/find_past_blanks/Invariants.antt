@@ -1,0 +1,18 @@
+-- `gaps::skip::find_past_blanks` meets its contract: what is passed over is whitespace, and the rest is searched byte by byte.
+use mathlib.Core.Path.{◌≡◌, refl, sym, ◌∙◌}
+use Prim.Native.Nat.{◌+◌, ◌-◌}
+use native.Mathlib.Omega.{arith}
+use borrow.Author.Rules.{rules}
+use borrow.Author.Tests.{not-false}
+use lib.ListN.{length}
+use Rattle.scan.specs.Search.{first_from}
+use Rattle.scan.proofs.Searches.{search_end}
+use Rattle.text.specs.Whitespace.{visible}
+use Rattle.gaps.proofs.SkipLaws.{blank_past}
+use Rattle.gaps.proofs.skip.find_past_blanks.Given as goal
+
+abbrev pub invariant-loop-i : goal.invariant-loop-i
+invariant-loop-i l = first_from visible l.s l.from ≡ first_from visible l.s l.i
+
+abbrev pub decreases-loop-i : goal.decreases-loop-i
+decreases-loop-i l = length l.s - l.i

@@ -1,0 +1,15 @@
+-- `header::frame::find_bytewise` meets its contract, as `scan::find` does.
+use mathlib.Core.Path.{◌≡◌, refl, sym, ◌∙◌}
+use Prim.Native.Nat.{◌-◌}
+use lib.ListN.{length}
+use Rattle.scan.specs.Search.{first_from}
+use Rattle.scan.proofs.Searches.{search_end, search_hit, search_on}
+use Rattle.header.specs.Frame.{ends_body}
+use borrow.Author.Rules.{rules}
+use Rattle.header.proofs.frame.find_bytewise.Given as goal
+
+abbrev pub invariant-loop-i : goal.invariant-loop-i
+invariant-loop-i l = first_from ends_body l.s l.from ≡ first_from ends_body l.s l.i
+
+abbrev pub decreases-loop-i : goal.decreases-loop-i
+decreases-loop-i l = length l.s - l.i

@@ -1,0 +1,18 @@
+use Prim.Native.Nat.{ℕ, ◌-◌}
+use mathlib.Core.Path.{◌≡◌, refl, sym, ap, ◌∙◌}
+use lib.ListN.{length, drop}
+use Rattle.text.specs.Key.{key_of}
+use Rattle.header.specs.Hash.{hash_of, hash_from, mixed}
+use Rattle.header.proofs.HashLaws.{hash_end, hash_more}
+use borrow.Author.Rules.{rules}
+use Rattle.header.proofs.repeat.hash_key.Goals as goal
+
+pub loop-i-preserved : goal.loop-i-preserved
+loop-i-preserved c =
+    c.loop-i.invariant ∙ hash_more _ _ _ _ c.loop-i-test.true c.mix_key_byte-h.ensures
+
+pub returns : goal.returns
+unfolding hash_of
+returns c =
+    c.mix.ensures
+    ∙ ap (λ (x : ℕ). mixed x 0) (sym (hash_end c.args.k.now _ _ c.loop-i-test.false) ∙ sym c.loop-i.invariant)

@@ -1,0 +1,16 @@
+-- `header::repeat::insert_key` meets its contract.
+use mathlib.Core.Path.{subst}
+use Rattle.header.specs.Hash.{Inserted}
+use Rattle.header.proofs.RepeatLaws.{key_new, key_looked_up}
+use borrow.Author.Rules.{rules}
+use Rattle.header.proofs.repeat.insert_key.Goals as goal
+
+pub returns-then-insert : goal.returns-then-insert
+returns-then-insert c =
+    key_looked_up _ _ _ _ _ _ _ c.hash_key-h.ensures c.slot_of.ensures c.insert.ensures
+    c.is_earlier.ensures
+
+pub returns : goal.returns
+returns c =
+    key_new _ _ _ _ _ _ _ c.hash_key-h.ensures c.slot_of.ensures
+    (subst (Inserted _ _ _ _) c.if-insert.false c.insert.ensures)

@@ -1,0 +1,8 @@
+-- `keyword::lookup::look_up` meets its contract.
+use Rattle.keyword.proofs.Lookups.{value_alone}
+use borrow.Author.Rules.{rules}
+use Rattle.keyword.proofs.lookup.look_up.Goals as goal
+
+pub returns : goal.returns
+returns c =
+    let both = value_alone _ _ _ c.trace-f.result c.trace-f.ensures in record { result_value = both.0; result_value_2 = both.1 }

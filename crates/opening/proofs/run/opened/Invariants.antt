@@ -1,0 +1,25 @@
+-- `opening::run::opened` meets its contract: the answer from where the loop stands is the answer from the start.
+use mathlib.Core.Path.{◌≡◌, refl, sym, ◌∙◌}
+use Prim.Native.Nat.{◌-◌, ◌≤◌, ◌<◌}
+use native.Mathlib.Omega.{arith}
+use lib.ListN.{length, take, drop}
+use Rattle.blocks.specs.Opening.{identity_among}
+use Rattle.opening.specs.Core.{step_of}
+use Rattle.opening.specs.declared.Step.TheVariants.{Block}
+use Rattle.opening.proofs.Searches.{among_end, among_here, among_on, searched_le, searched_is}
+use Rattle.opening.proofs.Standing.{Stands, starts, ends, room, twice, goes_on}
+use borrow.Author.Rules.{rules}
+use Rattle.opening.proofs.run.opened.Given as goal
+
+abbrev pub invariant-loop-i : goal.invariant-loop-i
+invariant-loop-i l =
+    (l.n ≤ 256) × (l.n ≤ length l.rows) × (identity_among l.row (take l.n l.rows) ≡ identity_among l.row (drop l.i (take l.n l.rows)))
+
+abbrev pub decreases-loop-i : goal.decreases-loop-i
+decreases-loop-i l = l.n - l.i
+
+abbrev pub invariant-loop-answer : goal.invariant-loop-answer
+invariant-loop-answer l = Stands l.file l.rows l.count l.end l.rules
+
+abbrev pub decreases-loop-answer : goal.decreases-loop-answer
+decreases-loop-answer l = 257 - l.count

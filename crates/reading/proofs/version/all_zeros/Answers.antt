@@ -1,0 +1,18 @@
+use mathlib.Core.Path.{◌≡◌, refl, sym, ◌∙◌}
+use Prim.Native.Nat.{◌-◌}
+use borrow.Author.Tests.{eq-eqb, ne_eqb}
+use lib.ListN.{length, drop}
+use Rattle.scan.specs.Search.{is}
+use Rattle.text.specs.Text.{every}
+use Rattle.text.proofs.Escaping.{passes_here, fails_here, passed_all}
+use borrow.Author.Rules.{rules}
+use Rattle.reading.proofs.version.all_zeros.Goals as goal
+
+pub returns-then-l-i-ne48 : goal.returns-then-l-i-ne48
+returns-then-l-i-ne48 c = sym (c.loop-i.invariant ∙ fails_here (is 48) _ _ c.loop-i-test.true (ne_eqb _ _ c.if-l-i-ne48.true))
+
+pub loop-i-preserved : goal.loop-i-preserved
+loop-i-preserved c = c.loop-i.invariant ∙ passes_here (is 48) _ _ c.loop-i-test.true (eq-eqb _ _ c.if-l-i-ne48.false)
+
+pub returns : goal.returns
+returns c = sym (c.loop-i.invariant ∙ passed_all (is 48) _ _ c.loop-i-test.false)
