@@ -8,7 +8,7 @@ use lib.Dec.{leb, eqb}
 use lib.IntN.{ℤ, pos}
 use lib.ListN.{length}
 use Rattle.scan.specs.Byte.{ascii}
-use Rattle.scan.specs.Outcome.{Outcome, ok, present, require, ◌>>=◌, ◌>>◌}
+use Rattle.scan.specs.Outcome.{Outcome, present}
 use Rattle.scan.specs.declared.Error.{Error}
 use Rattle.text.specs.Number.{whole_number}
 use Rattle.keyword.specs.Keyword.{View}

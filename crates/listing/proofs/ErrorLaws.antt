@@ -3,7 +3,7 @@ use mathlib.Core.Path.{◌≡◌, ap, subst}
 use mathlib.Core.Bool.{Bool, true, false}
 use mathlib.Core.Option.{Option, none, some}
 use Prim.Native.Nat.{ℕ}
-use Rattle.scan.specs.Outcome.{Outcome, ok, failed, error_at, refused, present, require, ◌>>=◌, ◌>>◌}
+use Rattle.scan.specs.Outcome.{Outcome, ok, failed, error_at, present, require, ◌>>=◌, ◌>>◌}
 use Rattle.scan.specs.declared.Error.{Error}
 use Rattle.scan.proofs.Cases.{ok-failed}
 
