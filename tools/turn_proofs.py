@@ -447,6 +447,21 @@ def convert(path, modpath, entry):
             LOG.append(f"  local over a place: {sig[:120]}")
         answers.append(d)
     folder = os.path.dirname(path)
+    # definitions of the file that an invariant cites stand in Invariants.antt too
+    local = {}
+    for a in answers:
+        code = [l for l in a.split("\n") if not l.startswith("--")]
+        m = re.match(r"(?:abbrev )?(?:pub )?(\S+) :", code[0]) if code else None
+        if m and not re.match(r"pub \S+ : goal\.", code[0]):
+            local[m.group(1)] = a
+    wanted, text_of = [], "\n".join(invs)
+    while True:
+        more = [n for n in local if n not in wanted and re.search(r"(?<![\w'.-])" + re.escape(n) + r"(?![\w'-])", text_of)]
+        if not more:
+            break
+        wanted += more
+        text_of += "\n" + "\n".join(local[n] for n in more)
+    invs = [local[n] for n in local if n in wanted] + invs
     uses = [u for u in uses if " as tie" not in u and ".Statement.{statement}" not in u]
     if invs:
         with open(os.path.join(folder, "Invariants.antt"), "w") as f:
