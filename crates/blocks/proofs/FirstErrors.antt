@@ -2,14 +2,13 @@
 use mathlib.Core.Path.{◌≡◌, refl, sym, subst}
 use mathlib.Core.List.{List}
 use mathlib.Core.Logic.{◌↔◌, inr}
-use Prim.Native.Nat.{ℕ, ◌+◌, ◌≤◌, ◌<◌}
+use Prim.Native.Nat.{ℕ, ◌+◌, ◌<◌}
 use native.Mathlib.Omega.{arith}
-use lib.ListN.{length}
 use Rattle.scan.specs.Byte.{byte}
 use Rattle.scan.specs.declared.Error.{Error}
 use Rattle.scan.proofs.Cases.{by_order}
 use Rattle.header.specs.Cases.{EndsBody, BodyEnd, NoEnd, FrameError}
-use Rattle.header.specs.Grammar.{StartPattern, EndPattern, IsHeader}
+use Rattle.header.specs.Grammar.{StartPattern, EndPattern}
 use Rattle.header.specs.declared.Header.{Header}
 use Rattle.header.proofs.FrameLaws.{header_inside, header_order}
 use Rattle.header.proofs.FrameParts.{no_end_here}

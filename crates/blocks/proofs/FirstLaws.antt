@@ -1,15 +1,13 @@
 -- The first header of a file, behind whitespace or a start pattern: its brace is the first byte that is no whitespace, and what it says
 -- from there decides the kind before the block is judged.
-use mathlib.Core.Path.{◌≡◌, refl, sym, ap, subst, ◌∙◌}
-use mathlib.Core.Bool.{true, false}
+use mathlib.Core.Path.{◌≡◌, refl, sym, subst, ◌∙◌}
+use mathlib.Core.Bool.{true}
 use mathlib.Core.List.{List}
 use mathlib.Core.Logic.{◌↔◌}
-use Prim.Native.Nat.{ℕ, suc, ◌+◌, ◌-◌, ◌≤◌, ◌<◌}
+use Prim.Native.Nat.{ℕ, suc, ◌+◌, ◌-◌, ◌<◌}
 use native.Mathlib.Omega.{arith}
-use lib.ListN.{length}
 use Rattle.scan.specs.Byte.{byte}
-use Rattle.scan.specs.Outcome.{ok, failed}
-use Rattle.scan.proofs.Cases.{by_test, by_outcome, none_some, ok-failed}
+use Rattle.scan.proofs.Cases.{by_test, by_outcome, ok-failed}
 use Rattle.scan.proofs.Decides.{Decides, fails, decided, refuted, passes, rejects, decides_by}
 use Rattle.scan.proofs.Finds.{by_finds}
 use Rattle.text.specs.Whitespace.{whitespace, visible_from}
@@ -18,7 +16,6 @@ use Rattle.header.specs.Entries.{entries}
 use Rattle.header.specs.Entry.{Entry, body_of}
 use Rattle.header.specs.Frame.{header_at}
 use Rattle.header.specs.Grammar.{StartPattern, IsHeader}
-use Rattle.header.specs.Statements.{statements_from}
 use Rattle.header.specs.declared.Header.{Header}
 use Rattle.header.specs.declared.Statement.{Statement}
 use Rattle.header.proofs.FrameLaws.{header_sound, header_complete, header_inside, header_order}
@@ -27,7 +24,7 @@ use Rattle.header.proofs.StatementLaws.{finds-statements, statements_are}
 use Rattle.header.proofs.Unambiguous.{header_unique}
 use Rattle.blocks.specs.Cases.{NextAt, ProvesKind2, FirstAt, at-brace, at_zero}
 use Rattle.blocks.specs.Grammar.{HasHeader, HeadsFile}
-use Rattle.blocks.specs.Judging.{edf_first, proves_kind2}
+use Rattle.blocks.specs.Judging.{proves_kind2}
 use Rattle.blocks.specs.Opening.{first_start}
 use Rattle.blocks.specs.Places.{Kind, kind_1, kind_2, StartsWithEdfKey}
 use Rattle.blocks.proofs.Coded.{kinds_differ, by_kind}

@@ -1,10 +1,10 @@
 -- 11 "in kind 2 only": in a file of kind 1 a header may have any length.
-use mathlib.Core.Path.{◌≡◌, sym, ap, subst, ◌∙◌}
+use mathlib.Core.Path.{◌≡◌, sym, subst, ◌∙◌}
 use mathlib.Core.List.{List}
-use Prim.Native.Nat.{ℕ, ◌*◌}
+use Prim.Native.Nat.{ℕ}
 use native.Mathlib.Omega.{arith}
 use Rattle.scan.specs.declared.Error.{Error}
-use Rattle.header.specs.Cases.{FrameError, no_start, bad-byte, no_end, StatementsError, malformed, too_long, key_twice}
+use Rattle.header.specs.Cases.{no_start, bad-byte, no_end, malformed, too_long, key_twice}
 use Rattle.header.specs.Entry.{Entry}
 use Rattle.header.specs.declared.Header.{Header}
 use Rattle.header.specs.declared.Statement.{Statement}

@@ -1,5 +1,5 @@
 -- What `opened` answers: rows are a partition of the file, and an error is given in its case.
-use mathlib.Core.Path.{◌≡◌, refl, sym, ap, subst, ◌∙◌}
+use mathlib.Core.Path.{◌≡◌, refl, sym, ap, ◌∙◌}
 use mathlib.Core.Bool.{true, false}
 use mathlib.Core.Logic.{◌≢◌, inr, ⊎_elim}
 use mathlib.Core.List.Memᴰ
@@ -10,13 +10,12 @@ use native.Mathlib.Omega.{arith}
 use borrow.Author.Tests.{ne_eqb, eqb-true, eqb-false}
 use lib.Dec.{eqb}
 use lib.ListN.{length, length-append}
-use Rattle.scan.specs.Chain.{Chain}
 use Rattle.scan.specs.Outcome.{Outcome, ok, failed}
 use Rattle.scan.specs.declared.Error.{Error}
 use Rattle.scan.proofs.Cases.{by_test, by_outcome, none_some}
 use Rattle.scan.proofs.Chains.{chain_more, chain_length, chain_inside, chain_member, chain_stops}
 use Rattle.scan.proofs.Decides.{Decides, holds, decided, refuted, rejects, decides_by, decides_or, decides_and, decides_not, eqb_decides}
-use Rattle.blocks.specs.Cases.{NextAt, FirstAt, Passed, Repeats, FileError, first_block, later-block, identity-twice, too_many, wrong-count}
+use Rattle.blocks.specs.Cases.{NextAt, Passed, Repeats, FileError, first_block, later-block, identity-twice, too_many, wrong-count}
 use Rattle.blocks.specs.Grammar.{Rules, plain_rules, Gap, SpacedBlock, FirstHeader, CountIs, Partition}
 use Rattle.blocks.specs.Judging.{block_at}
 use Rattle.blocks.specs.Opening.{first_start, next_start, start_after, ended, count_matches, repeats, opened_from, opened}

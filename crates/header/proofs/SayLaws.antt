@@ -2,7 +2,6 @@
 use mathlib.Core.Path.{◌≡◌, refl, sym, ap, ◌∙◌}
 use mathlib.Core.List.{List, [], ◌∷◌, map}
 use Prim.Native.Nat.{ℕ, suc, ◌+◌}
-use lib.ListN.{length}
 use Rattle.text.specs.Value.{value_span}
 use Rattle.lexical.proofs.ValueLaws.{value_is, value_holds, value-length}
 use Rattle.header.specs.Entries.{value, span, entries}

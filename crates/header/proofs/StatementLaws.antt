@@ -8,7 +8,6 @@ use native.Mathlib.Omega.{arith}
 use lib.ListN.{length}
 use Rattle.scan.specs.Chain.{Chain}
 use Rattle.scan.specs.Outcome.{Outcome, ok, failed, refused}
-use Rattle.scan.specs.Search.{is}
 use Rattle.scan.proofs.Cases.{by_test, none_some}
 use Rattle.scan.proofs.Chains.{chain_unique}
 use Rattle.scan.proofs.Decides.{decided, refuted, passes, rejects}

@@ -7,7 +7,6 @@ use mathlib.Core.Logic.{◌≢◌}
 use Prim.Native.Nat.{ℕ, suc, ◌≤◌, ◌<◌}
 use native.Mathlib.Omega.{arith}
 use borrow.Author.Tests.{eq-eqb, ne_eqb}
-use lib.ListN.{length}
 use Rattle.scan.specs.Byte.{byte}
 use Rattle.scan.specs.First.{First}
 use Rattle.scan.specs.Search.{is}

@@ -1,6 +1,6 @@
 -- The rule for letters: a byte between the ends of the alphabet becomes the letter 32 above it. `fold` gives at every number what the rule
 -- gives.
-use mathlib.Core.Path.{◌≡◌, refl, sym, ap, ◌∙◌, fun_ext}
+use mathlib.Core.Path.{◌≡◌, refl, sym, ap, fun_ext}
 use mathlib.Core.Bool.{cond, ◌&&◌}
 use mathlib.Core.List.{List, map}
 use Prim.Native.Nat.{ℕ, ◌+◌, ◌≤◌, ◌<◌}

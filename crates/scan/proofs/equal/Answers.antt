@@ -1,10 +1,6 @@
-use mathlib.Core.Path.{◌≡◌, sym, ◌∙◌}
-use Prim.Native.Nat.{◌-◌}
+use mathlib.Core.Path.{sym, ◌∙◌}
 use native.Mathlib.Omega.{arith}
-use lib.ListN.{length}
-use Rattle.scan.specs.Byte.{same}
-use Rattle.scan.proofs.Equals.{other_length, same_from, same_start, same_end, same-differ, same_on}
-use borrow.Author.Rules.{rules}
+use Rattle.scan.proofs.Equals.{other_length, same_start, same_end, same-differ, same_on}
 use Rattle.scan.proofs.equal.Goals as goal
 
 pub returns-then-a-b : goal.returns-then-a-b

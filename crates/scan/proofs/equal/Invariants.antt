@@ -1,11 +1,9 @@
 -- `scan::equal` meets its contract. The invariant: what is left of the two is the same just when the two are.
-use mathlib.Core.Path.{◌≡◌, sym, ◌∙◌}
+use mathlib.Core.Path.{◌≡◌}
 use Prim.Native.Nat.{◌-◌}
-use native.Mathlib.Omega.{arith}
 use lib.ListN.{length}
 use Rattle.scan.specs.Byte.{same}
-use Rattle.scan.proofs.Equals.{other_length, same_from, same_start, same_end, same-differ, same_on}
-use borrow.Author.Rules.{rules}
+use Rattle.scan.proofs.Equals.{same_from}
 use Rattle.scan.proofs.equal.Given as goal
 
 abbrev pub invariant-loop-i : goal.invariant-loop-i

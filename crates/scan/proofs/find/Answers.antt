@@ -1,10 +1,6 @@
-use mathlib.Core.Path.{◌≡◌, refl, sym, ◌∙◌}
-use Prim.Native.Nat.{◌-◌}
+use mathlib.Core.Path.{sym, ◌∙◌}
 use borrow.Author.Tests.{eq-eqb, ne_eqb}
-use lib.ListN.{length}
-use Rattle.scan.specs.Search.{first_from, is}
 use Rattle.scan.proofs.Searches.{search_end, search_hit, search_on}
-use borrow.Author.Rules.{rules}
 use Rattle.scan.proofs.find.Goals as goal
 
 pub returns-then-s-i : goal.returns-then-s-i

@@ -1,11 +1,8 @@
 -- `scan::find` meets its contract. The invariant: the search from where the loop stands answers what the whole search does.
-use mathlib.Core.Path.{◌≡◌, refl, sym, ◌∙◌}
+use mathlib.Core.Path.{◌≡◌}
 use Prim.Native.Nat.{◌-◌}
-use borrow.Author.Tests.{eq-eqb, ne_eqb}
 use lib.ListN.{length}
 use Rattle.scan.specs.Search.{first_from, is}
-use Rattle.scan.proofs.Searches.{search_end, search_hit, search_on}
-use borrow.Author.Rules.{rules}
 use Rattle.scan.proofs.find.Given as goal
 
 abbrev pub invariant-loop-i : goal.invariant-loop-i

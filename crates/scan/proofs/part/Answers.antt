@@ -1,8 +1,6 @@
 -- `scan::part` meets its contract: inside the slice the bytes of the span, else none.
-use mathlib.Core.Path.{refl}
 use native.Mathlib.Omega.{arith}
 use Rattle.scan.proofs.Parts.{part_outside, part_inside}
-use borrow.Author.Rules.{rules}
 use Rattle.scan.proofs.part.Goals as goal
 
 pub returns-then-s-from : goal.returns-then-s-from

@@ -1,7 +1,5 @@
 -- `header::check::answer` meets its contract.
 use mathlib.Core.Path.{◌∙◌}
-use borrow.Author.Rules.{rules}
-use borrow.Author.Tests.{not-true, not-false}
 use Rattle.header.proofs.Walk.{answer_long, answer_repeated, answer_good}
 use Rattle.header.proofs.check.answer.Goals as goal
 

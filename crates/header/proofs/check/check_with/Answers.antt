@@ -1,12 +1,12 @@
 use mathlib.Core.Path.{◌≡◌, refl, sym, ◌∙◌}
-use Prim.Native.Nat.{◌-◌, ◌≤◌, ◌<◌}
+use Prim.Native.Nat.{◌≤◌, ◌<◌}
 use native.Mathlib.Omega.{arith}
 use borrow.Author.Rules.{rules}
 use lib.ListN.{length}
 use Rattle.header.specs.Statements.{statement_at}
 use Rattle.header.specs.declared.Next.TheVariants.{One}
 use Rattle.header.proofs.Leading.{statement-lies}
-use Rattle.header.proofs.Walk.{Passed, passed_start, passed_more, passed_malformed, passed_end}
+use Rattle.header.proofs.Walk.{passed_start, passed_more, passed_malformed, passed_end}
 use Rattle.header.proofs.check.check_with.Goals as goal
 
 pub loop-t-init : goal.loop-t-init

@@ -1,14 +1,9 @@
 -- `header::check::check_with` meets its contract. The invariant: whether the statements passed are short, whether their keys are
 -- distinct, and that the table contains these.
-use mathlib.Core.Path.{◌≡◌, refl, sym, ◌∙◌}
-use Prim.Native.Nat.{◌-◌, ◌≤◌, ◌<◌}
-use native.Mathlib.Omega.{arith}
-use borrow.Author.Rules.{rules}
+use mathlib.Core.Path.{◌≡◌}
+use Prim.Native.Nat.{◌-◌}
 use lib.ListN.{length}
-use Rattle.header.specs.Statements.{statement_at}
-use Rattle.header.specs.declared.Next.TheVariants.{One}
-use Rattle.header.proofs.Leading.{statement-lies}
-use Rattle.header.proofs.Walk.{Passed, passed_start, passed_more, passed_malformed, passed_end}
+use Rattle.header.proofs.Walk.{Passed}
 use Rattle.header.proofs.check.check_with.Given as goal
 
 abbrev pub invariant-loop-t : goal.invariant-loop-t

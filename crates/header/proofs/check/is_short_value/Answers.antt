@@ -1,7 +1,6 @@
 -- `header::check::is_short_value` meets its contract: trimming leaves no more bytes.
 use mathlib.Core.Path.{sym, ap}
 use native.Mathlib.Omega.{arith}
-use borrow.Author.Rules.{rules}
 use borrow.Author.Tests.{le-leb}
 use lib.Dec.{leb}
 use Rattle.scan.specs.declared.Span.{Span}

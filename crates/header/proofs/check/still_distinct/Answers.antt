@@ -1,6 +1,4 @@
 -- `header::check::still_distinct` meets its contract: the lent part is the key.
-use borrow.Author.Rules.{rules}
-use borrow.Author.Tests.{not-true, not-false}
 use Rattle.header.proofs.Leading.{part-key}
 use Rattle.header.proofs.RepeatLaws.{still_skipped, still_inserted}
 use Rattle.header.proofs.check.still_distinct.Goals as goal

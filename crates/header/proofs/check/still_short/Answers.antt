@@ -1,7 +1,5 @@
 -- `header::check::still_short` meets its contract: the lent parts are the key and the value before trimming.
-use borrow.Author.Tests.{not-true, not-false}
 use Rattle.header.proofs.Lengths.{not_short, key_too_long, by_value}
-use borrow.Author.Rules.{rules}
 use Rattle.header.proofs.check.still_short.Goals as goal
 
 pub returns-then-not-short : goal.returns-then-not-short

@@ -1,7 +1,6 @@
 -- `header::frame::closing_at` meets its contract: each way through the tests is one way through `closing_at`.
 use Rattle.header.specs.Frame.{closing_at}
 use Rattle.header.proofs.FrameSteps.{passed, denied}
-use borrow.Author.Rules.{rules}
 use Rattle.header.proofs.frame.closing_at.Goals as goal
 
 pub returns-then-a-eq10 : goal.returns-then-a-eq10

@@ -1,14 +1,9 @@
 -- `header::frame::find_body_end` meets its contract: what is passed over holds no end, and the rest is searched byte by byte.
-use mathlib.Core.Path.{◌≡◌, refl, sym, ◌∙◌}
-use Prim.Native.Nat.{◌+◌, ◌-◌}
-use native.Mathlib.Omega.{arith}
-use borrow.Author.Rules.{rules}
-use borrow.Author.Tests.{not-false}
+use mathlib.Core.Path.{◌≡◌}
+use Prim.Native.Nat.{◌-◌}
 use lib.ListN.{length}
 use Rattle.scan.specs.Search.{first_from}
-use Rattle.scan.proofs.Searches.{search_end}
 use Rattle.header.specs.Frame.{ends_body}
-use Rattle.header.proofs.BodySearch.{search_past}
 use Rattle.header.proofs.frame.find_body_end.Given as goal
 
 abbrev pub invariant-loop-i : goal.invariant-loop-i

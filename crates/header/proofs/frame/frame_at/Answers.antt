@@ -3,7 +3,6 @@ use mathlib.Core.Path.{sym, ◌∙◌}
 use native.Mathlib.Omega.{arith}
 use Rattle.header.proofs.FrameSteps.{opening_near, end_inside, closing_near}
 use Rattle.header.proofs.FrameSteps.{no_opening, no_body_end, bad_byte_here, no_closing, closed}
-use borrow.Author.Rules.{rules}
 use Rattle.header.proofs.frame.frame_at.Goals as goal
 
 pub returns-in_default : goal.returns-in_default

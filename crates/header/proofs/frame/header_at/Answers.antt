@@ -4,7 +4,6 @@ use Prim.Native.Nat.{◌+◌}
 use native.Mathlib.Omega.{arith}
 use lib.Seq.{length-take-le}
 use Rattle.header.proofs.FrameSteps.{past_the_end, whole_rest, in_window}
-use borrow.Author.Rules.{rules}
 use Rattle.header.proofs.frame.header_at.Goals as goal
 
 pub returns-then-s-start : goal.returns-then-s-start

@@ -1,11 +1,7 @@
-use mathlib.Core.Path.{◌≡◌, refl, ap}
-use mathlib.Core.Bool.{not, ◌&&◌}
-use Prim.Native.Nat.{◌-◌}
-use lib.ListN.{length, drop}
-use Rattle.text.specs.Text.{every}
+use mathlib.Core.Path.{ap}
+use mathlib.Core.Bool.{not}
 use Rattle.header.specs.Frame.{stays_in_body}
 use Rattle.header.proofs.BodySearch.{tested_all, tested_more}
-use borrow.Author.Rules.{rules}
 use Rattle.header.proofs.frame.is_body.Goals as goal
 
 pub loop-i-preserved : goal.loop-i-preserved

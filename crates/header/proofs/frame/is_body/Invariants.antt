@@ -1,12 +1,10 @@
 -- `header::frame::is_body` meets its contract. The invariant: the answer is that of the bytes passed, and that of those left.
-use mathlib.Core.Path.{◌≡◌, refl, ap}
-use mathlib.Core.Bool.{not, ◌&&◌}
+use mathlib.Core.Path.{◌≡◌}
+use mathlib.Core.Bool.{◌&&◌}
 use Prim.Native.Nat.{◌-◌}
 use lib.ListN.{length, drop}
 use Rattle.text.specs.Text.{every}
 use Rattle.header.specs.Frame.{stays_in_body}
-use Rattle.header.proofs.BodySearch.{tested_all, tested_more}
-use borrow.Author.Rules.{rules}
 use Rattle.header.proofs.frame.is_body.Given as goal
 
 abbrev pub invariant-loop-i : goal.invariant-loop-i

@@ -1,7 +1,6 @@
 -- `header::frame::opening_at` meets its contract: each way through the tests is one way through `opening_at`.
 use Rattle.header.specs.Frame.{opening_at}
 use Rattle.header.proofs.FrameSteps.{passed, denied}
-use borrow.Author.Rules.{rules}
 use Rattle.header.proofs.frame.opening_at.Goals as goal
 
 pub returns-then-a-eq123 : goal.returns-then-a-eq123

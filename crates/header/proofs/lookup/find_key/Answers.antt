@@ -1,14 +1,11 @@
-use Prim.Native.Nat.{◌-◌, ◌≤◌, ◌<◌}
-use mathlib.Core.Path.{◌≡◌, refl, sym, ◌∙◌}
+use Prim.Native.Nat.{◌≤◌, ◌<◌}
+use mathlib.Core.Path.{◌≡◌, sym, ◌∙◌}
 use native.Mathlib.Omega.{arith}
 use lib.ListN.{length}
-use Rattle.text.specs.Key.{key_of}
-use Rattle.header.specs.Lookup.{first_statement}
-use Rattle.header.specs.Statements.{statement_at, leading_statements}
+use Rattle.header.specs.Statements.{statement_at}
 use Rattle.header.specs.declared.Next.TheVariants.{One}
 use Rattle.header.proofs.Leading.{statement-lies, part-key}
 use Rattle.header.proofs.LookupLaws.{first_end, first_malformed, first_hit, first_miss}
-use borrow.Author.Rules.{rules}
 use Rattle.header.proofs.lookup.find_key.Goals as goal
 
 pub returns-in-End : goal.returns-in-End

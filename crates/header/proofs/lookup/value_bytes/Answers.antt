@@ -1,7 +1,6 @@
 -- `header::lookup::value_bytes` meets its contract.
 use Prim.Native.Nat.{◌+◌, ◌≤◌}
 use native.Mathlib.Omega.{arith}
-use borrow.Author.Rules.{rules}
 use Rattle.header.proofs.LookupLaws.{span_ends, value_part_lem}
 use Rattle.header.proofs.lookup.value_bytes.Goals as goal
 

@@ -1,7 +1,6 @@
 -- `header::lookup::value_of` meets its contract.
 use native.Mathlib.Omega.{arith}
 use Rattle.header.proofs.LookupLaws.{span_is, span_inside}
-use borrow.Author.Rules.{rules}
 use Rattle.header.proofs.lookup.value_of.Goals as goal
 
 pub overflow_add-result : goal.overflow_add-result

@@ -1,10 +1,7 @@
-use Prim.Native.Nat.{ℕ, ◌-◌}
-use mathlib.Core.Path.{◌≡◌, refl, sym, ap, ◌∙◌}
-use lib.ListN.{length, drop}
-use Rattle.text.specs.Key.{key_of}
-use Rattle.header.specs.Hash.{hash_of, hash_from, mixed}
+use Prim.Native.Nat.{ℕ}
+use mathlib.Core.Path.{sym, ap, ◌∙◌}
+use Rattle.header.specs.Hash.{hash_of, mixed}
 use Rattle.header.proofs.HashLaws.{hash_end, hash_more}
-use borrow.Author.Rules.{rules}
 use Rattle.header.proofs.repeat.hash_key.Goals as goal
 
 pub loop-i-preserved : goal.loop-i-preserved

@@ -1,11 +1,9 @@
 -- `header::repeat::hash_key` meets its contract. The invariant: the hash of the key is that of what is left of it, from `h` on.
-use Prim.Native.Nat.{ℕ, ◌-◌}
-use mathlib.Core.Path.{◌≡◌, refl, sym, ap, ◌∙◌}
+use Prim.Native.Nat.{◌-◌}
+use mathlib.Core.Path.{◌≡◌}
 use lib.ListN.{length, drop}
 use Rattle.text.specs.Key.{key_of}
-use Rattle.header.specs.Hash.{hash_of, hash_from, mixed}
-use Rattle.header.proofs.HashLaws.{hash_end, hash_more}
-use borrow.Author.Rules.{rules}
+use Rattle.header.specs.Hash.{hash_from}
 use Rattle.header.proofs.repeat.hash_key.Given as goal
 
 abbrev pub invariant-loop-i : goal.invariant-loop-i

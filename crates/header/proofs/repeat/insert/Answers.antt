@@ -1,9 +1,6 @@
-use Prim.Native.Nat.{◌-◌, ◌≤◌}
-use mathlib.Core.Path.{◌≡◌, refl}
+use mathlib.Core.Path.{refl}
 use native.Mathlib.Omega.{arith}
-use lib.ListN.{length}
-use Rattle.header.proofs.HashLaws.{Probed, probed_more, insert_zero, insert_there, insert-full, insert-new, at_entry}
-use borrow.Author.Rules.{rules}
+use Rattle.header.proofs.HashLaws.{probed_more, insert_zero, insert_there, insert-full, insert-new, at_entry}
 use Rattle.header.proofs.repeat.insert.Goals as goal
 
 pub returns-then-h-eq0 : goal.returns-then-h-eq0

@@ -1,11 +1,9 @@
 -- `header::repeat::insert` meets its contract. The invariant: the table is as it was, and no slot from `slot` up to `i` is
 -- empty or holds `h`.
 use Prim.Native.Nat.{◌-◌, ◌≤◌}
-use mathlib.Core.Path.{◌≡◌, refl}
-use native.Mathlib.Omega.{arith}
+use mathlib.Core.Path.{◌≡◌}
 use lib.ListN.{length}
-use Rattle.header.proofs.HashLaws.{Probed, probed_more, insert_zero, insert_there, insert-full, insert-new, at_entry}
-use borrow.Author.Rules.{rules}
+use Rattle.header.proofs.HashLaws.{Probed}
 use Rattle.header.proofs.repeat.insert.Given as goal
 
 abbrev pub invariant-loop-i : goal.invariant-loop-i

@@ -2,7 +2,6 @@
 use mathlib.Core.Path.{subst}
 use Rattle.header.specs.Hash.{Inserted}
 use Rattle.header.proofs.RepeatLaws.{key_new, key_looked_up}
-use borrow.Author.Rules.{rules}
 use Rattle.header.proofs.repeat.insert_key.Goals as goal
 
 pub returns-then-insert : goal.returns-then-insert

@@ -2,7 +2,6 @@
 use mathlib.Core.Path.{sym, ap, ◌∙◌}
 use Rattle.header.specs.Answers.{sought_option}
 use Rattle.header.specs.Repeats.{starts_before}
-use borrow.Author.Rules.{rules}
 use Rattle.header.proofs.repeat.is_earlier.Goals as goal
 
 pub returns-in-Missing : goal.returns-in-Missing

@@ -1,6 +1,5 @@
 -- `header::repeat::mix` meets its contract: the product of two numbers below 2^32, plus a number below 2^32 and a byte, fits.
 use native.Mathlib.Omega.{arith}
-use borrow.Author.Rules.{rules}
 use Rattle.header.specs.Hash.{mixed}
 use Rattle.header.proofs.HashLaws.{low_product, high_half, mixed_fits}
 use Rattle.header.proofs.repeat.mix.Goals as goal

@@ -1,10 +1,5 @@
-use mathlib.Core.Path.{◌≡◌, refl, sym, ◌∙◌}
-use Prim.Native.Nat.{◌-◌}
-use lib.ListN.{length}
-use Rattle.scan.specs.Search.{first_from}
+use mathlib.Core.Path.{sym, ◌∙◌}
 use Rattle.scan.proofs.Searches.{search_end, search_hit, search_on}
-use Rattle.header.specs.Checks.{separator}
-use borrow.Author.Rules.{rules}
 use Rattle.header.proofs.statements.find_separator.Goals as goal
 
 pub returns-then-is_separator : goal.returns-then-is_separator

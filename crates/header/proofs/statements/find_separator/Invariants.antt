@@ -1,11 +1,9 @@
 -- `header::statements::find_separator` meets its contract, as `scan::find` does.
-use mathlib.Core.Path.{◌≡◌, refl, sym, ◌∙◌}
+use mathlib.Core.Path.{◌≡◌}
 use Prim.Native.Nat.{◌-◌}
 use lib.ListN.{length}
 use Rattle.scan.specs.Search.{first_from}
-use Rattle.scan.proofs.Searches.{search_end, search_hit, search_on}
 use Rattle.header.specs.Checks.{separator}
-use borrow.Author.Rules.{rules}
 use Rattle.header.proofs.statements.find_separator.Given as goal
 
 abbrev pub invariant-loop-i : goal.invariant-loop-i

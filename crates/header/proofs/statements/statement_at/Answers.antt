@@ -3,7 +3,6 @@ use mathlib.Core.Path.{sym, ◌∙◌}
 use native.Mathlib.Omega.{arith}
 use Rattle.header.proofs.StatementSteps.{nothing_more, no-separator, mark_inside, semicolon_first, empty_key}
 use Rattle.header.proofs.StatementSteps.{unended, whole_statement}
-use borrow.Author.Rules.{rules}
 use Rattle.header.proofs.statements.statement_at.Goals as goal
 
 pub returns-in_default : goal.returns-in_default

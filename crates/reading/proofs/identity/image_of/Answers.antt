@@ -9,7 +9,6 @@ use lib.ListN.{take}
 use Rattle.scan.specs.Byte.{ascii, same}
 use Rattle.blocks.specs.Reading.{image_by}
 use Rattle.reading.proofs.IdentitySteps.{rest_is, prefix_fits, image_found, image_missing}
-use borrow.Author.Rules.{rules}
 use Rattle.reading.proofs.identity.image_of.Goals as goal
 
 pub slice_bounds-instance_of-count : goal.slice_bounds-instance_of-count

@@ -8,7 +8,6 @@ use lib.ListN.{take}
 use Rattle.scan.specs.Byte.{ascii, same}
 use Rattle.blocks.specs.Reading.{memory_of, identity_by}
 use Rattle.reading.proofs.IdentitySteps.{rest_is, prefix_fits, image_psd, image_error, image_unnamed}
-use borrow.Author.Rules.{rules}
 use Rattle.reading.proofs.identity.instance_of.Goals as goal
 
 pub slice_bounds-with_memory-count : goal.slice_bounds-with_memory-count

@@ -2,7 +2,6 @@
 use lib.Seq.{length-take-le}
 use mathlib.Core.Path.{sym}
 use Rattle.reading.proofs.IdentitySteps.{prefix_short}
-use borrow.Author.Rules.{rules}
 use Rattle.reading.proofs.identity.starts_with.Goals as goal
 
 pub returns-then-v-n : goal.returns-then-v-n

@@ -1,16 +1,14 @@
-use mathlib.Core.Path.{◌≡◌, refl, sym, ◌∙◌}
+use mathlib.Core.Path.{◌≡◌, sym, ◌∙◌}
 use mathlib.Core.Bool.{true}
 use Prim.Native.Nat.{◌-◌, ◌≤◌, ◌<◌}
 use native.Mathlib.Omega.{arith}
-use borrow.Author.Tests.{not-true, not-false}
 use lib.ListN.{length, take, drop}
 use Rattle.text.specs.Key.{key_of}
 use Rattle.header.specs.Statements.{statement_at}
 use Rattle.header.specs.declared.Next.TheVariants.{One}
 use Rattle.header.proofs.Leading.{statement-lies, part-key}
 use Rattle.blocks.specs.Counting.{is_edf_key}
-use Rattle.reading.proofs.CountingLaws.{counting_from, counting_end, counting_malformed, counting_stops, counting_hit, counting_miss}
-use borrow.Author.Rules.{rules}
+use Rattle.reading.proofs.CountingLaws.{counting_end, counting_malformed, counting_stops, counting_hit, counting_miss}
 use Rattle.reading.proofs.keys.find_counting.Goals as goal
 
 pub returns-in-End : goal.returns-in-End

@@ -1,14 +1,10 @@
 use mathlib.Core.Path.{◌≡◌, sym, ◌∙◌}
-use Prim.Native.Nat.{◌-◌}
 use native.Mathlib.Omega.{arith}
 use Rattle.scan.specs.Search.{first_from}
 use Rattle.scan.specs.declared.Found.TheVariants.{At}
-use Rattle.text.specs.Key.{key_of}
 use Rattle.text.specs.Whitespace.{visible}
 use Rattle.text.proofs.KeySteps.{visible_inside}
-use Rattle.blocks.specs.Counting.{is_edf_key}
-use Rattle.reading.proofs.EdfKeys.{edf_from, edf_start, edf_end, edf_none, edf_other, edf_next}
-use borrow.Author.Rules.{rules}
+use Rattle.reading.proofs.EdfKeys.{edf_start, edf_end, edf_none, edf_other, edf_next}
 use Rattle.reading.proofs.keys.is_edf_key.Goals as goal
 
 pub loop-n-init : goal.loop-n-init

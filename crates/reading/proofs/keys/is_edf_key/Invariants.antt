@@ -1,16 +1,10 @@
 -- `reading::keys::is_edf_key` meets its contract. The invariant: what is left of the key starts with what is left of `edf_`
 -- just when the key starts with `edf_`.
-use mathlib.Core.Path.{◌≡◌, sym, ◌∙◌}
+use mathlib.Core.Path.{◌≡◌}
 use Prim.Native.Nat.{◌-◌}
-use native.Mathlib.Omega.{arith}
-use Rattle.scan.specs.Search.{first_from}
-use Rattle.scan.specs.declared.Found.TheVariants.{At}
 use Rattle.text.specs.Key.{key_of}
-use Rattle.text.specs.Whitespace.{visible}
-use Rattle.text.proofs.KeySteps.{visible_inside}
 use Rattle.blocks.specs.Counting.{is_edf_key}
-use Rattle.reading.proofs.EdfKeys.{edf_from, edf_start, edf_end, edf_none, edf_other, edf_next}
-use borrow.Author.Rules.{rules}
+use Rattle.reading.proofs.EdfKeys.{edf_from}
 use Rattle.reading.proofs.keys.is_edf_key.Given as goal
 
 abbrev pub invariant-loop-n : goal.invariant-loop-n

@@ -4,7 +4,6 @@ use native.Mathlib.Omega.{arith}
 use Rattle.header.specs.Answers.{sought_option}
 use Rattle.header.proofs.LookupLaws.{first_stands}
 use Rattle.reading.proofs.SoughtLaws.{any_none, any_some, number_none, number_some}
-use borrow.Author.Rules.{rules}
 use Rattle.reading.proofs.numbers.any_number.Goals as goal
 
 pub value_bytes-requires : goal.value_bytes-requires

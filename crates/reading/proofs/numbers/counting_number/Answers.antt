@@ -4,7 +4,6 @@ use native.Mathlib.Omega.{arith}
 use Rattle.header.specs.Answers.{sought_option}
 use Rattle.reading.proofs.CountingLaws.{counting_stands}
 use Rattle.reading.proofs.SoughtLaws.{counting_none, counting_some, number_none, number_some}
-use borrow.Author.Rules.{rules}
 use Rattle.reading.proofs.numbers.counting_number.Goals as goal
 
 pub value_bytes-requires : goal.value_bytes-requires

@@ -1,6 +1,5 @@
 -- `reading::numbers::data_size` meets its contract.
 use Rattle.reading.proofs.SoughtLaws.{size_any, size_counting}
-use borrow.Author.Rules.{rules}
 use Rattle.reading.proofs.numbers.data_size.Goals as goal
 
 pub returns-then-kind-eq1 : goal.returns-then-kind-eq1

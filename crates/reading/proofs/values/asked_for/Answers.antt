@@ -1,7 +1,6 @@
 -- `reading::values::asked_for` meets its contract.
 use mathlib.Core.Path.{sym, ◌∙◌}
 use Rattle.reading.proofs.NumberSteps.{asked_undetermined, asked_number}
-use borrow.Author.Rules.{rules}
 use Rattle.reading.proofs.values.asked_for.Goals as goal
 
 pub returns-then-equal : goal.returns-then-equal

@@ -1,11 +1,6 @@
-use mathlib.Core.Path.{◌≡◌, refl, sym, ◌∙◌}
-use Prim.Native.Nat.{◌-◌}
-use borrow.Author.Tests.{not-true, not-false}
-use lib.ListN.{length, drop}
+use mathlib.Core.Path.{sym, ◌∙◌}
 use Rattle.text.specs.Number.{digit}
-use Rattle.text.specs.Text.{every}
 use Rattle.text.proofs.Escaping.{passes_here, fails_here, passed_all}
-use borrow.Author.Rules.{rules}
 use Rattle.reading.proofs.version.all_digits.Goals as goal
 
 pub returns-then-not-is_digit : goal.returns-then-not-is_digit

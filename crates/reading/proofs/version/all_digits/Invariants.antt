@@ -1,12 +1,9 @@
 -- `reading::version::all_digits` meets its contract. The invariant: the bytes from `i` on are digits just when all are.
-use mathlib.Core.Path.{◌≡◌, refl, sym, ◌∙◌}
+use mathlib.Core.Path.{◌≡◌}
 use Prim.Native.Nat.{◌-◌}
-use borrow.Author.Tests.{not-true, not-false}
 use lib.ListN.{length, drop}
 use Rattle.text.specs.Number.{digit}
 use Rattle.text.specs.Text.{every}
-use Rattle.text.proofs.Escaping.{passes_here, fails_here, passed_all}
-use borrow.Author.Rules.{rules}
 use Rattle.reading.proofs.version.all_digits.Given as goal
 
 abbrev pub invariant-loop-i : goal.invariant-loop-i

@@ -1,11 +1,7 @@
-use mathlib.Core.Path.{◌≡◌, refl, sym, ◌∙◌}
-use Prim.Native.Nat.{◌-◌}
+use mathlib.Core.Path.{sym, ◌∙◌}
 use borrow.Author.Tests.{eq-eqb, ne_eqb}
-use lib.ListN.{length, drop}
 use Rattle.scan.specs.Search.{is}
-use Rattle.text.specs.Text.{every}
 use Rattle.text.proofs.Escaping.{passes_here, fails_here, passed_all}
-use borrow.Author.Rules.{rules}
 use Rattle.reading.proofs.version.all_zeros.Goals as goal
 
 pub returns-then-l-i-ne48 : goal.returns-then-l-i-ne48

@@ -1,12 +1,9 @@
 -- `reading::version::all_zeros` meets its contract. The invariant: the bytes from `i` on are `0` just when all are.
-use mathlib.Core.Path.{◌≡◌, refl, sym, ◌∙◌}
+use mathlib.Core.Path.{◌≡◌}
 use Prim.Native.Nat.{◌-◌}
-use borrow.Author.Tests.{eq-eqb, ne_eqb}
 use lib.ListN.{length, drop}
 use Rattle.scan.specs.Search.{is}
 use Rattle.text.specs.Text.{every}
-use Rattle.text.proofs.Escaping.{passes_here, fails_here, passed_all}
-use borrow.Author.Rules.{rules}
 use Rattle.reading.proofs.version.all_zeros.Given as goal
 
 abbrev pub invariant-loop-i : goal.invariant-loop-i

@@ -3,14 +3,12 @@ use mathlib.Core.Path.{◌≡◌, sym, ◌∙◌}
 use mathlib.Core.Bool.{true, false}
 use Prim.Native.Nat.{◌-◌}
 use native.Mathlib.Omega.{arith}
-use borrow.Author.Tests.{not-true, not-false}
 use lib.ListN.{length, take}
 use lib.Seq.{length-take-le}
 use Rattle.scan.specs.Search.{is}
 use Rattle.text.specs.Number.{digit}
 use Rattle.text.specs.Text.{every}
 use Rattle.reading.proofs.VersionSteps.{version_short, version_other, version_zero, version_pointless, version_tens, version_units}
-use borrow.Author.Rules.{rules}
 use Rattle.reading.proofs.version.is_version.Goals as goal
 
 pub returns-then-v-lt3 : goal.returns-then-v-lt3

@@ -1,9 +1,8 @@
 use mathlib.Core.Path.{refl, ◌∙◌}
-use Prim.Native.Nat.{◌-◌, ◌≤◌}
 use native.Mathlib.Omega.{arith}
 use borrow.Author.Rules.{rules}
-use lib.ListN.{length, drop, drop_of_length-le}
-use Rattle.text.proofs.Buffers.{drop_next, Left, left_start, left_put, left_done, fits, short}
+use lib.ListN.{drop_of_length-le}
+use Rattle.text.proofs.Buffers.{drop_next, left_start, left_put, left_done, fits, short}
 use Rattle.text.proofs.buffer.write_bytes.Goals as goal
 
 pub returns-then-out-bytes : goal.returns-then-out-bytes

@@ -1,10 +1,7 @@
 -- `text::buffer::write_bytes` meets its contract. What is left to write is the bytes from i on.
-use mathlib.Core.Path.{refl, ◌∙◌}
 use Prim.Native.Nat.{◌-◌, ◌≤◌}
-use native.Mathlib.Omega.{arith}
-use borrow.Author.Rules.{rules}
-use lib.ListN.{length, drop, drop_of_length-le}
-use Rattle.text.proofs.Buffers.{drop_next, Left, left_start, left_put, left_done, fits, short}
+use lib.ListN.{length, drop}
+use Rattle.text.proofs.Buffers.{Left}
 use Rattle.text.proofs.buffer.write_bytes.Given as goal
 
 abbrev pub invariant-loop-i : goal.invariant-loop-i

@@ -4,7 +4,6 @@ use native.Mathlib.Omega.{arith}
 use mir.Syntax.{w64}
 use mir.ValLaws.{to_z-of_z}
 use Rattle.text.specs.Decimal.{decimal}
-use borrow.Author.Rules.{rules}
 use Rattle.text.proofs.decimal.decimal.Goals as goal
 
 pub returns : goal.returns

@@ -1,13 +1,9 @@
 -- `text::decimal::put_digits` meets its contract. The digits of what is left, before those that stand behind place i, are the digits of n.
-use mathlib.Core.Path.{◌≡◌, refl, sym, ap, ◌∙◌}
+use mathlib.Core.Path.{◌≡◌}
 use mathlib.Core.List.{[]}
-use Prim.Native.Nat.{ℕ, ◌+◌, ◌-◌, ◌^◌, ◌<◌, ◌≤◌}
-use native.Mathlib.Omega.{arith}
-use lib.ListN.{length, take, drop, length-set}
-use lib.Seq.{drop-length}
+use Prim.Native.Nat.{◌+◌, ◌^◌, ◌<◌, ◌≤◌}
+use lib.ListN.{length, take, drop}
 use Rattle.text.specs.Decimal.{digits_of}
-use Rattle.text.proofs.DigitWriting.{front_kept, more, less, turn, last}
-use borrow.Author.Rules.{rules}
 use Rattle.text.proofs.decimal.put_digits.Given as goal
 
 abbrev pub invariant-loop-rest : goal.invariant-loop-rest

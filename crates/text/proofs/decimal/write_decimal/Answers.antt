@@ -1,6 +1,5 @@
 -- `text::decimal::write_decimal` meets its contract.
 use mathlib.Core.Path.{ap, ◌∙◌}
-use borrow.Author.Rules.{rules}
 use mir.Syntax.{w64}
 use mir.ValLaws.{to_z-of_z}
 use Rattle.scan.specs.Outcome.{ok}

@@ -1,9 +1,7 @@
-use mathlib.Core.Path.{◌≡◌, refl, sym, ◌∙◌}
-use Prim.Native.Nat.{◌-◌, ◌≤◌}
+use mathlib.Core.Path.{refl, sym, ◌∙◌}
 use borrow.Author.Rules.{rules}
-use lib.ListN.{length, drop}
-use Rattle.text.specs.Text.{every, value_byte}
-use Rattle.text.proofs.Escaping.{flipped, passes_here, fails_here, passed_all}
+use Rattle.text.specs.Text.{value_byte}
+use Rattle.text.proofs.Escaping.{passes_here, fails_here, passed_all}
 use Rattle.text.proofs.escape.all_value_bytes.Goals as goal
 
 pub loop-i-init : goal.loop-i-init

@@ -1,10 +1,8 @@
 -- `text::escape::all_value_bytes` meets its contract. The loop keeps the answer: that of the bytes from i on.
-use mathlib.Core.Path.{◌≡◌, refl, sym, ◌∙◌}
+use mathlib.Core.Path.{◌≡◌}
 use Prim.Native.Nat.{◌-◌, ◌≤◌}
-use borrow.Author.Rules.{rules}
 use lib.ListN.{length, drop}
 use Rattle.text.specs.Text.{every, value_byte}
-use Rattle.text.proofs.Escaping.{flipped, passes_here, fails_here, passed_all}
 use Rattle.text.proofs.escape.all_value_bytes.Given as goal
 
 abbrev pub invariant-loop-i : goal.invariant-loop-i

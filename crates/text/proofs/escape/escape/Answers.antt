@@ -2,9 +2,8 @@
 use mathlib.Core.Path.{sym, ap, ◌∙◌}
 use Prim.Native.Nat.{ℕ, ◌+◌}
 use native.Mathlib.Omega.{arith}
-use borrow.Author.Rules.{rules}
 use Rattle.text.proofs.Buffers.{fits, short, of_equal, refuses}
-use Rattle.text.proofs.Escaping.{flipped, at_most_twice, quoted_length, escaped_24, escaped_25, escaped-ok}
+use Rattle.text.proofs.Escaping.{at_most_twice, quoted_length, escaped_24, escaped_25, escaped-ok}
 use Rattle.text.proofs.escape.escape.Goals as goal
 
 pub returns-then-not-all_text_bytes : goal.returns-then-not-all_text_bytes

@@ -1,9 +1,6 @@
-use mathlib.Core.Path.{◌≡◌, ap}
-use Prim.Native.Nat.{◌+◌, ◌-◌, ◌*◌, ◌≤◌}
+use mathlib.Core.Path.{ap}
 use native.Mathlib.Omega.{arith}
-use borrow.Author.Rules.{rules}
-use lib.ListN.{length, drop}
-use Rattle.text.specs.Text.{escaped_body}
+use lib.ListN.{length}
 use Rattle.text.proofs.Escaping.{with_letter, without_letter, escaped_end}
 use Rattle.text.proofs.escape.escaped_length.Goals as goal
 

@@ -1,11 +1,8 @@
 -- `text::escape::escaped_length` meets its contract. n, and the length of what is left, make the whole length.
-use mathlib.Core.Path.{◌≡◌, ap}
+use mathlib.Core.Path.{◌≡◌}
 use Prim.Native.Nat.{◌+◌, ◌-◌, ◌*◌, ◌≤◌}
-use native.Mathlib.Omega.{arith}
-use borrow.Author.Rules.{rules}
 use lib.ListN.{length, drop}
 use Rattle.text.specs.Text.{escaped_body}
-use Rattle.text.proofs.Escaping.{with_letter, without_letter, escaped_end}
 use Rattle.text.proofs.escape.escaped_length.Given as goal
 
 abbrev pub invariant-loop-i : goal.invariant-loop-i

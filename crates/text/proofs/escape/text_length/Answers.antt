@@ -1,11 +1,9 @@
-use mathlib.Core.Path.{◌≡◌, sym, ap, ◌∙◌}
-use mathlib.Core.Bool.{false}
-use Prim.Native.Nat.{◌+◌, ◌-◌, ◌≤◌}
+use mathlib.Core.Path.{sym, ap, ◌∙◌}
 use native.Mathlib.Omega.{arith}
 use borrow.Author.Rules.{rules}
-use lib.ListN.{length, drop}
+use lib.ListN.{length}
 use Rattle.text.specs.Text.{text_of}
-use Rattle.text.proofs.Escaping.{flipped, text_after, skips, takes, opens, copies, text_end}
+use Rattle.text.proofs.Escaping.{skips, takes, opens, copies, text_end}
 use Rattle.text.proofs.escape.text_length.Goals as goal
 
 pub loop-i-init : goal.loop-i-init

@@ -1,12 +1,9 @@
 -- `text::escape::text_length` meets its contract. n, and the length of what is left, make the whole length.
-use mathlib.Core.Path.{◌≡◌, sym, ap, ◌∙◌}
+use mathlib.Core.Path.{◌≡◌}
 use mathlib.Core.Bool.{false}
 use Prim.Native.Nat.{◌+◌, ◌-◌, ◌≤◌}
-use native.Mathlib.Omega.{arith}
-use borrow.Author.Rules.{rules}
 use lib.ListN.{length, drop}
-use Rattle.text.specs.Text.{text_of}
-use Rattle.text.proofs.Escaping.{flipped, text_after, skips, takes, opens, copies, text_end}
+use Rattle.text.proofs.Escaping.{text_after}
 use Rattle.text.proofs.escape.text_length.Given as goal
 
 abbrev pub invariant-loop-i : goal.invariant-loop-i

@@ -2,12 +2,11 @@
 use mathlib.Core.List.{List}
 use mathlib.Core.Path.{sym, ap, ◌∙◌}
 use native.Mathlib.Omega.{arith}
-use borrow.Author.Rules.{rules}
 use Prim.Native.Nat.{ℕ}
 use Rattle.text.specs.Text.{text_of, short_text}
 use Rattle.text.specs.Value.{value_of}
 use Rattle.text.proofs.Buffers.{of_equal, refuses}
-use Rattle.text.proofs.Escaping.{flipped, unescaped_24, unescaped-ok}
+use Rattle.text.proofs.Escaping.{unescaped_24, unescaped-ok}
 use Rattle.text.proofs.ValueSpans.{value_fits, held_inside, held_part}
 use Rattle.text.proofs.escape.unescape.Goals as goal
 

@@ -1,13 +1,9 @@
 -- `text::escape::write_quoted` meets its contract. What is left to write is the escaped form of the bytes from i on, and a quote.
-use mathlib.Core.Path.{◌≡◌, ◌∙◌}
 use mathlib.Core.List.{[], ◌∷◌, ◌++◌}
-use Prim.Native.Nat.{◌+◌, ◌-◌, ◌≤◌}
-use native.Mathlib.Omega.{arith}
-use borrow.Author.Rules.{rules}
-use lib.ListN.{length, drop, set, get_or, length-set}
+use Prim.Native.Nat.{◌-◌, ◌≤◌}
+use lib.ListN.{length, drop}
 use Rattle.text.specs.Text.{escaped_body, quoted_text}
-use Rattle.text.proofs.Buffers.{Left, left_put, left_at, left_done}
-use Rattle.text.proofs.Escaping.{with_letter, without_letter, escaped_end, quoted_length, quote_first, over_quoted}
+use Rattle.text.proofs.Buffers.{Left}
 use Rattle.text.proofs.escape.write_quoted.Given as goal
 
 abbrev pub invariant-loop-i : goal.invariant-loop-i

@@ -1,7 +1,6 @@
 -- `text::escape::write_text` meets its contract.
 use mathlib.Core.Path.{sym, ◌∙◌}
 use native.Mathlib.Omega.{arith}
-use borrow.Author.Rules.{rules}
 use Rattle.text.specs.Text.{text_of}
 use Rattle.text.proofs.Buffers.{fits, short, of_equal, refuses}
 use Rattle.text.proofs.Escaping.{short_25, short_ok}

@@ -1,13 +1,13 @@
 use mathlib.Core.Path.{sym, ◌∙◌}
 use mathlib.Core.Bool.{false}
 use mathlib.Core.List.{◌∷◌}
-use Prim.Native.Nat.{◌+◌, ◌-◌, ◌≤◌}
+use Prim.Native.Nat.{◌+◌}
 use native.Mathlib.Omega.{arith}
 use borrow.Author.Rules.{rules}
-use lib.ListN.{length, drop, get_or}
+use lib.ListN.{drop, get_or}
 use Rattle.text.specs.Text.{text_of}
 use Rattle.text.proofs.Buffers.{Left, left_start, left_put, left_done}
-use Rattle.text.proofs.Escaping.{flipped, text_after, skips, takes, opens, copies, text_end}
+use Rattle.text.proofs.Escaping.{text_after, skips, takes, opens, copies, text_end}
 use Rattle.text.proofs.escape.write_unescaped.Goals as goal
 
 pub loop-i-init : goal.loop-i-init

@@ -1,5 +1,4 @@
 -- `text::key::fold_byte` meets its contract: each way through the tests is a part of the list that `fold` reads.
-use borrow.Author.Rules.{rules}
 use Rattle.text.proofs.Folds.{fold_capital, fold_low, fold_high}
 use Rattle.text.proofs.key.fold_byte.Goals as goal
 

@@ -1,10 +1,6 @@
-use mathlib.Core.Path.{◌≡◌, sym, ◌∙◌}
-use Prim.Native.Nat.{◌+◌, ◌-◌, ◌≤◌}
+use mathlib.Core.Path.{sym, ◌∙◌}
 use native.Mathlib.Omega.{arith}
-use lib.ListN.{length}
-use Rattle.text.specs.Key.{key_of}
-use Rattle.text.proofs.KeySteps.{key_from, count_start, count_end, count_next, visible_inside}
-use borrow.Author.Rules.{rules}
+use Rattle.text.proofs.KeySteps.{count_start, count_end, count_next, visible_inside}
 use Rattle.text.proofs.key.key_length.Goals as goal
 
 pub loop-x-init : goal.loop-x-init

@@ -1,11 +1,9 @@
 -- `text::key::key_length` meets its contract. The invariant: what is counted, with what is left, is the whole.
-use mathlib.Core.Path.{◌≡◌, sym, ◌∙◌}
+use mathlib.Core.Path.{◌≡◌}
 use Prim.Native.Nat.{◌+◌, ◌-◌, ◌≤◌}
-use native.Mathlib.Omega.{arith}
 use lib.ListN.{length}
 use Rattle.text.specs.Key.{key_of}
-use Rattle.text.proofs.KeySteps.{key_from, count_start, count_end, count_next, visible_inside}
-use borrow.Author.Rules.{rules}
+use Rattle.text.proofs.KeySteps.{key_from}
 use Rattle.text.proofs.key.key_length.Given as goal
 
 abbrev pub invariant-loop-x : goal.invariant-loop-x

@@ -1,12 +1,7 @@
-use mathlib.Core.Path.{◌≡◌, refl, sym, ◌∙◌}
-use Prim.Native.Nat.{◌-◌}
+use mathlib.Core.Path.{refl, sym, ◌∙◌}
 use native.Mathlib.Omega.{arith}
-use lib.ListN.{length}
-use Rattle.scan.specs.Byte.{same}
-use Rattle.text.specs.Key.{key_of}
 use Rattle.text.proofs.KeySteps.{key_from, visible_inside, both_end, left_ends, right_ends}
 use Rattle.text.proofs.KeySteps.{characters_differ, characters_agree}
-use borrow.Author.Rules.{rules}
 use Rattle.text.proofs.key.same_key.Goals as goal
 
 pub loop-x-init : goal.loop-x-init

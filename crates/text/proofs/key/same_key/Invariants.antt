@@ -1,13 +1,10 @@
 -- `text::key::same_key` meets its contract. The invariant: what is left of the two keys is the same just when the keys are.
-use mathlib.Core.Path.{◌≡◌, refl, sym, ◌∙◌}
+use mathlib.Core.Path.{◌≡◌}
 use Prim.Native.Nat.{◌-◌}
-use native.Mathlib.Omega.{arith}
 use lib.ListN.{length}
 use Rattle.scan.specs.Byte.{same}
 use Rattle.text.specs.Key.{key_of}
-use Rattle.text.proofs.KeySteps.{key_from, visible_inside, both_end, left_ends, right_ends}
-use Rattle.text.proofs.KeySteps.{characters_differ, characters_agree}
-use borrow.Author.Rules.{rules}
+use Rattle.text.proofs.KeySteps.{key_from}
 use Rattle.text.proofs.key.same_key.Given as goal
 
 abbrev pub invariant-loop-x : goal.invariant-loop-x

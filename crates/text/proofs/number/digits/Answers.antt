@@ -1,9 +1,6 @@
-use mathlib.Core.Path.{◌≡◌, sym, ap, ◌∙◌}
-use Prim.Native.Nat.{◌≤◌, ◌-◌}
+use mathlib.Core.Path.{sym, ap, ◌∙◌}
 use native.Mathlib.Omega.{arith}
 use borrow.Author.Rules.{rules}
-use lib.ListN.{length, drop}
-use Rattle.text.specs.Number.{digits_from, natural}
 use Rattle.text.proofs.Digits.{capped, alike, step, under, above, full, begun, empty, kept, too_big}
 use Rattle.text.proofs.number.digits.Goals as goal
 

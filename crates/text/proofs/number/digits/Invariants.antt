@@ -1,12 +1,10 @@
 -- `text::number::digits` meets its contract. The loop keeps the answer: what the digits from i on make of v is what all of
 -- them make of 0.
-use mathlib.Core.Path.{◌≡◌, sym, ap, ◌∙◌}
+use mathlib.Core.Path.{◌≡◌}
 use Prim.Native.Nat.{◌≤◌, ◌-◌}
-use native.Mathlib.Omega.{arith}
-use borrow.Author.Rules.{rules}
 use lib.ListN.{length, drop}
 use Rattle.text.specs.Number.{digits_from, natural}
-use Rattle.text.proofs.Digits.{capped, alike, step, under, above, full, begun, empty, kept, too_big}
+use Rattle.text.proofs.Digits.{capped}
 use Rattle.text.proofs.number.digits.Given as goal
 
 abbrev pub invariant-loop-i : goal.invariant-loop-i

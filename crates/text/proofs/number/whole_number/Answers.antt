@@ -1,6 +1,5 @@
 -- `text::number::whole_number` meets its contract.
 use mathlib.Core.Path.{◌∙◌}
-use borrow.Author.Rules.{rules}
 use Rattle.text.proofs.Digits.{nothing, minus_first, plus_first, no_sign}
 use Rattle.text.proofs.number.whole_number.Goals as goal
 

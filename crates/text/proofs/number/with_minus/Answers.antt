@@ -1,7 +1,6 @@
 -- `text::number::with_minus` meets its contract.
 use mathlib.Core.Path.{sym, ap, ◌∙◌}
 use mathlib.Core.Option.{Option, some}
-use borrow.Author.Rules.{rules}
 use borrow.Author.Tests.{lt-leb}
 use lib.IntN.{ℤ}
 use Rattle.text.specs.Answers.{natural_option}

@@ -1,5 +1,4 @@
 -- `text::signed::down` meets its contract.
-use borrow.Author.Rules.{rules}
 use Rattle.text.proofs.Signs.{down_fits, down_back}
 use Rattle.text.proofs.signed.down.Goals as goal
 

@@ -1,5 +1,4 @@
 -- `text::signed::up` meets its contract.
-use borrow.Author.Rules.{rules}
 use mir.Syntax.{w64}
 use mir.ValLaws.{to_z_pos}
 use Rattle.text.proofs.signed.up.Goals as goal

@@ -1,10 +1,7 @@
 use mathlib.Core.Path.{◌≡◌, refl, sym, ap, ◌∙◌}
-use Prim.Native.Nat.{◌≤◌}
 use native.Mathlib.Omega.{arith}
-use lib.ListN.{length}
 use Rattle.text.specs.Value.{trimmed_end}
 use Rattle.text.proofs.Trims.{end_over, end_stays}
-use borrow.Author.Rules.{rules}
 use Rattle.text.proofs.value.trimmed_end.Goals as goal
 
 pub loop-n-init : goal.loop-n-init

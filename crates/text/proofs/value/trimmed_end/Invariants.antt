@@ -1,11 +1,8 @@
 -- `text::value::trimmed_end` meets its contract. The invariant: the end is the same from where the loop stands.
-use mathlib.Core.Path.{◌≡◌, refl, sym, ap, ◌∙◌}
+use mathlib.Core.Path.{◌≡◌}
 use Prim.Native.Nat.{◌≤◌}
-use native.Mathlib.Omega.{arith}
 use lib.ListN.{length}
 use Rattle.text.specs.Value.{trimmed_end}
-use Rattle.text.proofs.Trims.{end_over, end_stays}
-use borrow.Author.Rules.{rules}
 use Rattle.text.proofs.value.trimmed_end.Given as goal
 
 abbrev pub invariant-loop-n : goal.invariant-loop-n

@@ -3,7 +3,6 @@ use mathlib.Core.Path.{sym, ap, ◌∙◌}
 use Prim.Native.Nat.{ℕ, ◌-◌}
 use native.Mathlib.Omega.{arith}
 use Rattle.text.proofs.Trims.{trimmed_empty, trimmed_some, first_before_end}
-use borrow.Author.Rules.{rules}
 use Rattle.text.proofs.value.trimmed_span.Goals as goal
 
 pub overflow_sub-n : goal.overflow_sub-n

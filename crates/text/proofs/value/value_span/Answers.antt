@@ -1,6 +1,5 @@
 -- `text::value::value_span` meets its contract: the three steps of `value_span`.
 use Rattle.text.proofs.Trims.{first_fits, second_fits, third_step}
-use borrow.Author.Rules.{rules}
 use Rattle.text.proofs.value.value_span.Goals as goal
 
 pub without_opening_quote-p-requires : goal.without_opening_quote-p-requires

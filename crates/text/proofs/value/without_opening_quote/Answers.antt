@@ -3,7 +3,6 @@ use borrow.Author.Tests.{eq-eqb, ne_eqb, lt-ltb, le-ltb}
 use native.Mathlib.Numerals.{add-one}
 use native.Mathlib.Omega.{arith}
 use Rattle.text.specs.Value.{without_opening_quote}
-use borrow.Author.Rules.{rules}
 use Rattle.text.proofs.value.without_opening_quote.Goals as goal
 
 pub returns-then-n-eq0 : goal.returns-then-n-eq0

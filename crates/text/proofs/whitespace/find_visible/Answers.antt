@@ -1,11 +1,7 @@
-use mathlib.Core.Path.{◌≡◌, refl, sym, ap, ◌∙◌}
+use mathlib.Core.Path.{sym, ap, ◌∙◌}
 use mathlib.Core.Bool.{not}
-use Prim.Native.Nat.{◌-◌}
-use lib.ListN.{length}
-use Rattle.scan.specs.Search.{first_from}
 use Rattle.scan.proofs.Searches.{search_end, search_hit, search_on}
 use Rattle.text.specs.Whitespace.{visible}
-use borrow.Author.Rules.{rules}
 use Rattle.text.proofs.whitespace.find_visible.Goals as goal
 
 pub loop-i-preserved : goal.loop-i-preserved

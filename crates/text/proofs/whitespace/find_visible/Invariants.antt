@@ -1,13 +1,10 @@
 -- `text::whitespace::find_visible` meets its contract. The invariant: the search from where the loop stands answers what the
 -- whole search does.
-use mathlib.Core.Path.{◌≡◌, refl, sym, ap, ◌∙◌}
-use mathlib.Core.Bool.{not}
+use mathlib.Core.Path.{◌≡◌}
 use Prim.Native.Nat.{◌-◌}
 use lib.ListN.{length}
 use Rattle.scan.specs.Search.{first_from}
-use Rattle.scan.proofs.Searches.{search_end, search_hit, search_on}
 use Rattle.text.specs.Whitespace.{visible}
-use borrow.Author.Rules.{rules}
 use Rattle.text.proofs.whitespace.find_visible.Given as goal
 
 abbrev pub invariant-loop-i : goal.invariant-loop-i

@@ -1,0 +1,21 @@
+-- `stored::stored_described` meets its contract.
+use mathlib.Core.Path.{refl, sym, ◌∙◌}
+use borrow.Author.Tests.{not-true, not-false}
+use Rattle.scan.specs.Outcome.{ok}
+use Rattle.stored.specs.Stored.{stored_with}
+use borrow.Author.Rules.{rules}
+use Rattle.stored.proofs.stored_described.Goals as goal
+
+pub returns-then-not-is_order : goal.returns-then-not-is_order
+unfolding stored_with
+returns-then-not-is_order c = rw (sym c.is_order.ensures ∙ c.if-not-is_order.true) refl
+
+pub returns : goal.returns
+unfolding stored_with
+returns c =
+    rw (sym c.is_order.ensures ∙ c.if-not-is_order.false)
+    (λ j. ok (record {
+      description = c.args.d;
+      span = record { offset = c.args.offset; length = c.array_length-n.ensures j };
+      delivered = c.as_delivered-same.ensures j;
+    }))
