@@ -1,7 +1,7 @@
 -- The file that the writer makes, with errors 24 and 25.
 use Rattle.std.specs.Prelude.{◌≡◌, Bool, false, ◌&&◌, List, [], ◌∷◌, ◌++◌, ℕ, ◌+◌, ◌-◌, ◌*◌, ◌≤◌, eqb, leb, ℤ, pos, negsuc, length, take, get_or}
 use Rattle.scan.specs.Byte.{ascii, bytes_at}
-use Rattle.scan.specs.Outcome.{Outcome, ok, require, ◌>>=◌, ◌>>◌}
+use Rattle.scan.specs.Outcome.{Outcome, ok, require, ◌>>◌}
 use Rattle.text.specs.Decimal.{decimal}
 use Rattle.text.specs.Text.{every, text_byte, short_text, quoted_text}
 use Rattle.blocks.specs.IdentityText.{identity_text}

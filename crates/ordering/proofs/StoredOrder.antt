@@ -1,11 +1,11 @@
 -- The pixels read at the steps of a configuration are the stored pixels.
-use mathlib.Core.Path.{◌≡◌, refl, sym, ap, subst, ◌∙◌}
+use mathlib.Core.Path.{◌≡◌, sym, ap, subst, ◌∙◌}
 use mathlib.Core.List.{List, [], ◌∷◌, ◌++◌}
 use Prim.Native.Nat.{ℕ, zero, suc, ◌+◌, ◌-◌, ◌*◌, ◌^◌, ◌≤◌, ◌<◌}
 use native.Mathlib.Nat.{add-zero, mul-zero, mul-one, mul_comm, mul_assoc, suc-mul, mul-le-mul_left, mul-le-mul_right}
 use native.Mathlib.Omega.{arith}
 use lib.IntN.{pos}
-use lib.ListN.{length, take, drop, get_or, replicate, length-append, length-take, length-drop, length-replicate}
+use lib.ListN.{length, take, drop, get_or, replicate, length-take, length-drop}
 use lib.Seq.{get_or-take}
 use Rattle.raster.specs.Axis.{Axis, configurations, order_of}
 use Rattle.raster.specs.Bytes.{number_of, bytes_of, joined}
@@ -20,7 +20,7 @@ use Rattle.raster.proofs.OrderLaws.{as_three, order_extent}
 use Rattle.raster.proofs.Positions.{extent, position_cons}
 use Rattle.raster.proofs.RoundTrip.{number_bound, offset_zero}
 use Rattle.raster.proofs.Stored.{octets_part}
-use Rattle.frame.specs.File.{frame_dims, frame_type, pixel_bytes, stored_pixels, file_data}
+use Rattle.frame.specs.File.{frame_type, pixel_bytes, stored_pixels, file_data}
 use Rattle.rendering.specs.Render.{padding, filled}
 use Rattle.frame.specs.Shape.{shape_dims, IsShape}
 use Rattle.ordering.specs.Stored.{axis_at, steps_along, stored_steps}

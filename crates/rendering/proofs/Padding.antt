@@ -1,5 +1,4 @@
 -- What fills to a multiple of 512.
-use mathlib.Core.Path.{◌≡◌}
 use Prim.Native.Nat.{ℕ, ◌+◌, ◌-◌, ◌/◌, ◌%◌, ◌≤◌}
 use native.Mathlib.Omega.{arith}
 use Rattle.blocks.specs.Grammar.{MultipleOf}

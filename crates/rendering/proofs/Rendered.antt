@@ -19,7 +19,7 @@ use Rattle.header.specs.Entry.{Entry, body_of}
 use Rattle.header.specs.Grammar.{StartPattern, EndPattern, BodyByte, IsHeader, Distinct, Parse}
 use Rattle.header.specs.declared.Header.{Header}
 use Rattle.header.specs.declared.Statement.{Statement}
-use Rattle.header.proofs.Laid.{Piece, laid, statements_at, entries_at, ValueByte, KeyByte, MayLay, blank_byte, laid_body, laid_parse, laid_entries}
+use Rattle.header.proofs.Laid.{Piece, laid, statements_at, entries_at, ValueByte, KeyByte, MayLay, blank_byte, laid_body, laid_parse, laid_entries, placed}
 use Rattle.header.proofs.SayLaws.{entries_say}
 use Rattle.blocks.specs.Grammar.{HasHeader, MultipleOf}
 use Rattle.rendering.specs.Render.{Keyword, line, lines, padding, opening, rendered_header}
@@ -188,13 +188,13 @@ module _ (ks : List Keyword) where
 said_keys : (at : ℕ) (ks : List Keyword) → map (λ (e : Entry). e.key) (entries_at at (map piece_of ks)) ≡ map folded ks
 unfolding entries_at
 said_keys at [] = refl
-said_keys at (k ∷ ks) = cc (piece_key k, said_keys _ ks)
+said_keys at (k ∷ ks) = cc (piece_key k, said_keys (suc (placed at (piece_of k)).end) ks)
 
 said_values : (at : ℕ) (ks : List Keyword)
     → map (λ (e : Entry). e.value) (entries_at at (map piece_of ks)) ≡ map (λ (k : Keyword). value_of (spaced k.value)) ks
 unfolding entries_at
 said_values at [] = refl
-said_values at (k ∷ ks) = cc (said_values _ ks)
+said_values at (k ∷ ks) = cc (said_values (suc (placed at (piece_of k)).end) ks)
 
 -- A header that gives the keywords back.
 pub record ParsesBack (ks : List Keyword) (s : List ℕ) : Type 0 where
