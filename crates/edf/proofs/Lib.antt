@@ -9,4 +9,3 @@ pub mod Main
 pub mod OpeningLaws
 pub mod Refusals
 pub mod TableLaws
-pub mod Walks

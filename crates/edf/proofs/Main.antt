@@ -31,8 +31,8 @@ module _ {s : List ℕ} where
   pub one_cut : {blocks others : List Block} → Cut s blocks → Cut s others → blocks ≡ others
   one_cut = blocks.one_cut s
 
-  pub has_parse : {blocks : List Block} → Cut s blocks → {b : Block} → List-Memᴰ b blocks → BlockHeader s b
-  has_parse = blocks.has-parse s
+  pub has_parse : {blocks : List Block} → Cut s blocks → {b : Block} → List-as-Memᴰ b blocks → BlockHeader s b
+  has_parse = blocks.has_parse s
 
   pub one_parse : {h : Header} {ts us : List Statement} → Parse s h ts → Parse s h us → ts ≡ us
   one_parse = blocks.one_parse s
@@ -109,13 +109,13 @@ module _ (f : Frame) (title pixels before after : List ℕ) (n : ℕ) (call : Wr
 
 -- 2,048 bytes are room for what `escape` writes, and 1,023 for `unescape` and `text`.
 pub escape_fits : (text : List ℕ) {value : List ℕ} → escaped text ≡ ok value → length value ≤ 2048
-escape_fits = laws.escaped-fits
+escape_fits = laws.escaped_fits
 
 pub unescape_fits : (value : List ℕ) {text : List ℕ} → unescaped value ≡ ok text → length text ≤ 1023
-unescape_fits = laws.unescaped-fits
+unescape_fits = laws.unescaped_fits
 
 pub text_fits : (s : List ℕ) (block : ℕ) (key : List ℕ) {text : List ℕ} → text_in s block key ≡ ok text → length text ≤ 1023
-text_fits = laws.text-fits
+text_fits = laws.text_fits
 
 -- Text in value form reads back.
 pub text_back : (text : List ℕ) {before after : List ℕ} {n : ℕ} → Escape text before (Length n) after
