@@ -15,7 +15,7 @@ fn letters_in(bytes: &[u8]) -> Option<usize> {
 }
 
 fn archive() -> Vec<u8> {
-    fs::read(format!("{}/../target/staticlib/libedf_c.a", env!("CARGO_MANIFEST_DIR"))).unwrap()
+    fs::read(format!("{}/../crates/edf_c/out/libedf_c.a", env!("CARGO_MANIFEST_DIR"))).unwrap()
 }
 
 #[test]

@@ -1,4 +1,4 @@
-//! The lister, the program that `rt check edf_list` builds: for each input it prints what the second reader gives.
+//! The lister, the program that `rt ci` builds, or `rt run` in crates/edf_list: for each input it prints what the second reader gives.
 
 use edf_tests::files::fixtures;
 use edf_tests::generate::case;
@@ -13,7 +13,7 @@ use std::time::Duration;
 
 /// What the program prints for an input that comes in pieces, with a little time between them.
 fn in_pieces(input: &[u8], length: usize) -> String {
-    let program = Path::new(env!("CARGO_MANIFEST_DIR")).join("../target/bin/edf_list");
+    let program = Path::new(env!("CARGO_MANIFEST_DIR")).join("../crates/edf_list/out/edf_list");
     let mut command = Command::new(&program);
     let pipes = command.stdin(Stdio::piped()).stdout(Stdio::piped()).stderr(Stdio::piped());
     let mut running = pipes.spawn().unwrap_or_else(|error| panic!("{}: {error}", program.display()));

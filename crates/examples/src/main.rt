@@ -8,42 +8,68 @@ mod print;
 mod values;
 mod writing;
 
-use libc::STDIN_FILENO;
+ghost use Rattle.std.specs.Prelude.{◌≤◌, IfOk, length};
+
+use std::io;
+use std::io::{Input, Read};
+
+// Reads standard input to its end or until the buffer is full: how many bytes it put at the front of the buffer.
+fn read_full(rt: &impl Input, buffer: &mut [u8]) -> io::Result<usize>
+    ensures { IfOk result (λ n. n ≤ length buffer.new) }
+{
+    let room = buffer.len();
+    let mut rest = &mut buffer[..];
+    io::copy(&mut rt.reader().take(room as u64), &mut rest)?;
+    Ok(room.saturating_sub(rest.len()))
+}
 
 // The calls on a block's array, and on a keyword's value.
-fn show_block(file: &[u8], block: usize, key: &[u8], out: &mut [u8]) {
-    print::put(b'\n');
-    print::count(block);
-    arrays::describe(file, block);
+fn show_block(
+    rt: &impl Print,
+    file: &[u8],
+    block: usize,
+    key: &[u8],
+    out: &mut [u8],
+) -> io::Result<()> {
+    print::put(rt, b'\n')?;
+    print::count(rt, block)?;
+    arrays::describe(rt, file, block)?;
     let array = edf::read_array(file, block, 1, out);
-    print::written(array, out);
-    arrays::stored_array(file, block);
-    arrays::read_pixel(file, block);
-    let value = values::find(file, block, key);
+    print::written(rt, array, out)?;
+    arrays::stored_array(rt, file, block)?;
+    arrays::read_pixel(rt, file, block)?;
+    let value = values::find(rt, file, block, key)?;
     let unescaped = edf::unescape(edf::part(file, value), out);
-    print::written(unescaped, out);
+    print::written(rt, unescaped, out)?;
     let text = edf::text(file, block, key, out);
-    print::written(text, out);
-    values::whole_number(file, block, key);
+    print::written(rt, text, out)?;
+    values::whole_number(rt, file, block, key)
 }
 
 // The 16 blocks of the file, and a number past the last.
-fn show_blocks(file: &[u8], key: &[u8], out: &mut [u8]) {
+fn show_blocks(rt: &impl Print, file: &[u8], key: &[u8], out: &mut [u8]) -> io::Result<()> {
     for block in 0..17 {
-        show_block(file, block, key, out);
+        show_block(rt, file, block, key, out)?;
     }
+    Ok(())
 }
 
-fn main() {
+fn main(rt: HostRuntime) -> io::Result<()> {
     let mut input = [0u8; 4096];
-    let n = io::read_full(STDIN_FILENO, &mut input);
+    let n = read_full(&rt, &mut input)?;
     let file = &input[..n];
     print::show(
+        &rt,
         b"block | describe | read_array | stored_array | read_pixel | find | unescape | text | whole_number\n | escape | write | list\n",
-    );
+    )?;
     let mut out = [0u8; 8];
-    show_blocks(file, b"Title", &mut out);
-    print::put(b'\n');
+    show_blocks(&rt, file, b"Title", &mut out)?;
+    print::put(&rt, b'\n')?;
     let mut written = [0u8; 1024];
-    writing::example(b"x;", b"\0\x01\0\x02\0\x03\0\x04\0\x05\0\x06", &mut written);
+    writing::example(
+        &rt,
+        b"x;",
+        b"\0\x01\0\x02\0\x03\0\x04\0\x05\0\x06",
+        &mut written,
+    )
 }

@@ -2,30 +2,36 @@
 use super::print;
 use keyword::{Located, Number};
 use scan::Span;
+use std::io;
 
 // Answers where the value stands too; nowhere is at 0, with no bytes.
-pub(crate) fn find(file: &[u8], block: usize, key: &[u8]) -> Span {
-    print::column();
+pub(crate) fn find(rt: &impl Print, file: &[u8], block: usize, key: &[u8]) -> io::Result<Span> {
+    print::column(rt)?;
     match edf::find(file, block, key) {
         Located::At(p) => {
-            print::count(p.offset);
-            print::bracketed(edf::part(file, p));
-            p
+            print::count(rt, p.offset)?;
+            print::bracketed(rt, edf::part(file, p))?;
+            Ok(p)
         }
         Located::Failed(e) => {
-            print::failure(e);
-            Span {
+            print::failure(rt, e)?;
+            Ok(Span {
                 offset: 0,
                 length: 0,
-            }
+            })
         }
     }
 }
 
-pub(crate) fn whole_number(file: &[u8], block: usize, key: &[u8]) {
-    print::column();
+pub(crate) fn whole_number(
+    rt: &impl Print,
+    file: &[u8],
+    block: usize,
+    key: &[u8],
+) -> io::Result<()> {
+    print::column(rt)?;
     match edf::whole_number(file, block, key) {
-        Number::Value(n) => print::signed(n),
-        Number::Failed(e) => print::failure(e),
+        Number::Value(n) => print::signed(rt, n),
+        Number::Failed(e) => print::failure(rt, e),
     }
 }

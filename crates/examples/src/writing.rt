@@ -1,27 +1,39 @@
 // The writer and the lister, and the writer's file of document 01's section on the lister.
 use super::print;
 use frame::Frame;
+use std::io;
 use text::Written;
 
-pub(crate) fn list(file: &[u8], out: &mut [u8]) {
+pub(crate) fn list(rt: &impl Print, file: &[u8], out: &mut [u8]) -> io::Result<()> {
     let w = edf::list(file, out);
-    print::written(w, out);
+    print::written(rt, w, out)
 }
 
 // The length of the file.
-fn write(frame: Frame, title: &[u8], pixels: &[u8], out: &mut [u8]) {
-    print::column();
+fn write(
+    rt: &impl Print,
+    frame: Frame,
+    title: &[u8],
+    pixels: &[u8],
+    out: &mut [u8],
+) -> io::Result<()> {
+    print::column(rt)?;
     match edf::write(frame, title, pixels, out) {
-        Written::Length(n) => print::count(n),
-        Written::Failed(e) => print::failure(e),
+        Written::Length(n) => print::count(rt, n),
+        Written::Failed(e) => print::failure(rt, e),
     }
 }
 
 // 1.Image.Psd, UnsignedShort, HighByteFirst, 3 by 2, configuration 6: the title in value form, the file's header, and its listing.
-pub(crate) fn example(title: &[u8], pixels: &[u8], out: &mut [u8]) {
-    print::put(b'\n');
+pub(crate) fn example(
+    rt: &impl Print,
+    title: &[u8],
+    pixels: &[u8],
+    out: &mut [u8],
+) -> io::Result<()> {
+    print::put(rt, b'\n')?;
     let value = edf::escape(title, out);
-    print::written(value, out);
+    print::written(rt, value, out)?;
     let frame = Frame {
         sequence: 1,
         instance: 1,
@@ -34,9 +46,9 @@ pub(crate) fn example(title: &[u8], pixels: &[u8], out: &mut [u8]) {
         dim3: 0,
         configuration: 6,
     };
-    write(frame, title, pixels, out);
-    print::bracketed(print::first(out, 512));
+    write(rt, frame, title, pixels, out)?;
+    print::bracketed(rt, print::first(out, 512))?;
     let mut listing = [0u8; 80];
-    list(out, &mut listing);
-    print::put(b'\n');
+    list(rt, out, &mut listing)?;
+    print::put(rt, b'\n')
 }

@@ -7,33 +7,32 @@ mod lend;
 
 use blocks::{Opened, Row};
 use lend::open_held;
-use libc::STDOUT_FILENO;
 use scan::{Error, Span};
+use std::io;
 
-fn show(w: &[u8]) {
-    io::write_all(STDOUT_FILENO, w);
+fn show(rt: &impl Print, w: &[u8]) -> io::Result<()> {
+    rt.write_all(w)
 }
 
-fn count(n: usize) {
-    show(b" ");
-    io::print_decimal(STDOUT_FILENO, n as u64);
+fn count(rt: &impl Print, n: usize) -> io::Result<()> {
+    print!(rt; " {n}")
 }
 
-fn failure(e: Error) {
+fn failure(rt: &impl Print, e: Error) -> io::Result<()> {
     let code = e.code;
-    show(b" refused");
-    count(code as usize);
-    count(e.position);
+    show(rt, b" refused")?;
+    count(rt, code as usize)?;
+    count(rt, e.position)
 }
 
-fn place(row: Row) {
-    show(b" |");
-    count(row.start);
-    count(row.header);
-    count(row.size);
+fn place(rt: &impl Print, row: Row) -> io::Result<()> {
+    show(rt, b" |")?;
+    count(rt, row.start)?;
+    count(rt, row.header)?;
+    count(rt, row.size)
 }
 
-fn open(file: &[u8]) {
+fn open(rt: &impl Print, file: &[u8]) -> io::Result<()> {
     let filling = Row {
         start: 7,
         header: 7,
@@ -47,60 +46,63 @@ fn open(file: &[u8]) {
     let rows = h.rows;
     let answer = h.answer;
     match answer {
-        Opened::Blocks(n) => count(n),
-        Opened::Failed(e) => failure(e),
+        Opened::Blocks(n) => count(rt, n)?,
+        Opened::Failed(e) => failure(rt, e)?,
     }
-    place(rows[0]);
-    place(rows[255]);
-    show(b"\n");
+    place(rt, rows[0])?;
+    place(rt, rows[255])?;
+    show(rt, b"\n")
 }
 
-fn open_first(s: &[u8; 66048], n: usize) {
-    open(edf::part(
-        s,
-        Span {
-            offset: 0,
-            length: n,
-        },
-    ));
+fn open_first(rt: &impl Print, s: &[u8; 66048], n: usize) -> io::Result<()> {
+    open(
+        rt,
+        edf::part(
+            s,
+            Span {
+                offset: 0,
+                length: n,
+            },
+        ),
+    )
 }
 
 // A file of kind 1 of one header, which is closed at offset `at`.
-fn closed_at(at: usize) {
+fn closed_at(rt: &impl Print, at: usize) -> io::Result<()> {
     let mut s = [b' '; 66048];
     if at > 66046 {
-        return;
+        return Ok(());
     }
     s[0] = b'{';
     s[at] = b'}';
     let last = at + 1;
     s[last] = b'\n';
-    open_first(&s, at + 2);
+    open_first(rt, &s, at + 2)
 }
 
 // Headers on both sides of 512 and of 65,536 bytes.
-fn lengths() {
-    closed_at(510);
-    closed_at(509);
-    closed_at(65534);
-    closed_at(66046);
+fn lengths(rt: &impl Print) -> io::Result<()> {
+    closed_at(rt, 510)?;
+    closed_at(rt, 509)?;
+    closed_at(rt, 65534)?;
+    closed_at(rt, 66046)
 }
 
 // Whitespace around blocks, of kind 1 and of kind 2.
-fn whitespace() {
-    open(b" {}\n\t{Size=1;}\n. ");
-    open(b" \n ");
-    open(b"{}\n x");
-    open(b" {EDF_DataBlockID=1.Image.Psd;}\n");
-    open(b"\r\n{EDF_x=;}\n");
+fn whitespace(rt: &impl Print) -> io::Result<()> {
+    open(rt, b" {}\n\t{Size=1;}\n. ")?;
+    open(rt, b" \n ")?;
+    open(rt, b"{}\n x")?;
+    open(rt, b" {EDF_DataBlockID=1.Image.Psd;}\n")?;
+    open(rt, b"\r\n{EDF_x=;}\n")
 }
 
-fn main() {
-    open(b"{Size=3;}\nabc");
-    open(b"{Size=3;}\nab");
-    open(b"");
-    open(b"{EDF_DataBlockID=1.Image.Psd.1;}\n");
-    open(b"{EDF_DataBlockID=1.Image.Psd;}\n");
-    lengths();
-    whitespace();
+fn main(rt: HostRuntime) -> io::Result<()> {
+    open(&rt, b"{Size=3;}\nabc")?;
+    open(&rt, b"{Size=3;}\nab")?;
+    open(&rt, b"")?;
+    open(&rt, b"{EDF_DataBlockID=1.Image.Psd.1;}\n")?;
+    open(&rt, b"{EDF_DataBlockID=1.Image.Psd;}\n")?;
+    lengths(&rt)?;
+    whitespace(&rt)
 }

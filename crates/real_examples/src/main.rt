@@ -3,72 +3,83 @@
 // Runs the public call `real` on worked examples of document 02, No. 2: the keywords `a` to `u` of the file on its standard input, and
 // one that is not there. Prints the value in brackets, the unit and the bits of the float in hexadecimal; or `refused`, code and position.
 // `stdout` is worked out apart, with exact fractions.
+ghost use Rattle.std.specs.Prelude.{◌≤◌, IfOk, length};
+
 use keyword::Located;
-use libc::{STDIN_FILENO, STDOUT_FILENO};
 use reals::{Measured, Real};
 use scan::Error;
+use std::io;
+use std::io::{Input, Read};
 
-fn show(w: &[u8]) {
-    io::write_all(STDOUT_FILENO, w);
+// Reads standard input to its end or until the buffer is full: how many bytes it put at the front of the buffer.
+fn read_full(rt: &impl Input, buffer: &mut [u8]) -> io::Result<usize>
+    ensures { IfOk result (λ n. n ≤ length buffer.new) }
+{
+    let room = buffer.len();
+    let mut rest = &mut buffer[..];
+    io::copy(&mut rt.reader().take(room as u64), &mut rest)?;
+    Ok(room.saturating_sub(rest.len()))
+}
+
+fn show(rt: &impl Print, w: &[u8]) -> io::Result<()> {
+    rt.write_all(w)
 }
 
 fn bits(x: f64) -> u64 {
     if x == x { f64::to_bits(x) } else { 0 }
 }
 
-fn float(unit: &[u8], x: f64) {
-    show(unit);
-    io::print_hex(STDOUT_FILENO, bits(x), 16);
-    show(b"\n");
+fn float(rt: &impl Print, unit: &[u8], x: f64) -> io::Result<()> {
+    show(rt, unit)?;
+    let n = bits(x);
+    println!(rt; "{n:016x}")
 }
 
-fn real(r: Real) {
+fn real(rt: &impl Print, r: Real) -> io::Result<()> {
     match r {
-        Real::Number(x) => float(b" ", x),
-        Real::Metres(x) => float(b" m ", x),
-        Real::Degrees(x) => float(b" deg ", x),
-        Real::Radians(x) => float(b" rad ", x),
+        Real::Number(x) => float(rt, b" ", x),
+        Real::Metres(x) => float(rt, b" m ", x),
+        Real::Degrees(x) => float(rt, b" deg ", x),
+        Real::Radians(x) => float(rt, b" rad ", x),
     }
 }
 
-fn failure(e: Error) {
+fn failure(rt: &impl Print, e: Error) -> io::Result<()> {
     let code = e.code;
-    show(b" refused ");
-    io::print_decimal(STDOUT_FILENO, code as u64);
-    show(b" ");
-    io::print_decimal(STDOUT_FILENO, e.position as u64);
-    show(b"\n");
+    let position = e.position;
+    println!(rt; " refused {code} {position}")
 }
 
 // The value of a keyword, if there is one.
-fn value(file: &[u8], key: &[u8]) {
+fn value(rt: &impl Print, file: &[u8], key: &[u8]) -> io::Result<()> {
     match edf::find(file, 0, key) {
         Located::At(p) => {
-            show(b"[");
-            show(edf::part(file, p));
-            show(b"]");
+            show(rt, b"[")?;
+            show(rt, edf::part(file, p))?;
+            show(rt, b"]")
         }
-        Located::Failed(_) => show(b"none"),
+        Located::Failed(_) => show(rt, b"none"),
     }
 }
 
-fn example(file: &[u8], key: u8) {
+fn example(rt: &impl Print, file: &[u8], key: u8) -> io::Result<()> {
     let name = [key];
-    value(file, &name);
+    value(rt, file, &name)?;
     match edf::real(file, 0, &name) {
-        Measured::Value(r) => real(r),
-        Measured::Failed(e) => failure(e),
+        Measured::Value(r) => real(rt, r),
+        Measured::Failed(e) => failure(rt, e),
     }
 }
 
-fn examples(file: &[u8]) {
+fn examples(rt: &impl Print, file: &[u8]) -> io::Result<()> {
     for key in 97..119 {
-        example(file, key);
+        example(rt, file, key)?;
     }
+    Ok(())
 }
 
-fn main() {
+fn main(rt: HostRuntime) -> io::Result<()> {
     let mut input = [0u8; 1024];
-    let n = io::read_full(STDIN_FILENO, &mut input);
-    examples(&input[..n]);
+    let n = read_full(&rt, &mut input)?;
+    examples(&rt, &input[..n])
 }
