@@ -2,7 +2,7 @@
 -- the field's number as their position.
 use Rattle.std.specs.Prelude.{cond, ◌&&◌, List, [], ◌∷◌, ℕ, leb, ℤ, pos, negsuc}
 use Rattle.std.proofs.Math.Option.{Option, none, some}
-use Rattle.scan.specs.Outcome.{Outcome, ok, present, ◌>>=◌, ◌>>◌}
+use Rattle.scan.specs.Outcome.{Outcome, ok, present, ◌>>=◌}
 use Rattle.text.specs.Number.{whole_number}
 use Rattle.raster.specs.Types.{code_of}
 use Rattle.description.specs.Limits.{dim_limit}

@@ -3,7 +3,7 @@
 use Rattle.std.specs.Prelude.{Bool, false, cond, ◌&&◌, List, [], ℕ, eqb, ℤ}
 use Rattle.std.proofs.Math.Option.{Option, none, some}
 use Rattle.std.proofs.Math.ListN.{get_elem?}
-use Rattle.scan.specs.Outcome.{Outcome, ok, present, ◌>>=◌, ◌>>◌}
+use Rattle.scan.specs.Outcome.{Outcome, ok, present, ◌>>=◌}
 use Rattle.scan.specs.declared.Span.{Span}
 use Rattle.text.specs.Key.{key_of}
 use Rattle.text.specs.Number.{whole_number}

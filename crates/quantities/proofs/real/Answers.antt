@@ -2,7 +2,6 @@
 use mathlib.Core.Path.{sym, ap, ◌∙◌}
 use Rattle.keyword.specs.Answers.{located_bytes}
 use Rattle.quantities.proofs.ReadLaws.{real_unread, real_read}
-use borrow.Author.Rules.{rules}
 use Rattle.quantities.proofs.real.Goals as goal
 
 pub returns-in-Failed : goal.returns-in-Failed

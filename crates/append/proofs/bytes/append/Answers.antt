@@ -1,7 +1,6 @@
 -- `append::bytes::append` meets its contract.
 use mathlib.Core.Path.{refl, ◌∙◌}
 use native.Mathlib.Omega.{arith}
-use borrow.Author.Rules.{rules}
 use Prim.Native.Nat.{◌+◌, ◌-◌}
 use lib.ListN.{length, take, drop, length-take, length-drop}
 use Rattle.append.proofs.Appending.{buffer_fits, part_appended}

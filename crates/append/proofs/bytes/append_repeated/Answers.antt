@@ -1,7 +1,6 @@
 -- `append::bytes::append_repeated` meets its contract.
 use Prim.Native.Nat.{◌+◌, ◌-◌}
 use native.Mathlib.Omega.{arith}
-use borrow.Author.Rules.{rules}
 use lib.ListN.{take, drop, replicate, length-take, length-drop, length-replicate}
 use Rattle.append.proofs.Appending.{part_appended, repeated_part}
 use Rattle.append.proofs.bytes.append_repeated.Goals as goal

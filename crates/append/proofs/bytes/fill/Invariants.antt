@@ -1,10 +1,7 @@
 -- `append::bytes::fill` meets its contract. The first i bytes are written.
-use mathlib.Core.Path.{◌≡◌, refl}
+use mathlib.Core.Path.{◌≡◌}
 use Prim.Native.Nat.{◌-◌, ◌≤◌}
-use native.Mathlib.Omega.{arith}
-use borrow.Author.Rules.{rules}
 use lib.ListN.{length, take, replicate}
-use Rattle.append.proofs.Appending.{repeated_more, repeated_all}
 use Rattle.append.proofs.bytes.fill.Given as goal
 
 abbrev pub invariant-loop-i : goal.invariant-loop-i

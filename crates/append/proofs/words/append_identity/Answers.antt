@@ -1,5 +1,4 @@
 -- `append::words::append_identity` meets its contract.
-use borrow.Author.Rules.{rules}
 use Rattle.append.proofs.Appending.{appended_then, appended_is}
 use Rattle.append.proofs.WordLaws.{identity_is}
 use native.Mathlib.Omega.{arith}

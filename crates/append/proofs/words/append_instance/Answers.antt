@@ -1,5 +1,4 @@
 -- `append::words::append_instance` meets its contract.
-use borrow.Author.Rules.{rules}
 use Rattle.append.proofs.Appending.{appended_is}
 use Rattle.append.proofs.WordLaws.{instance_psd, instance_error}
 use native.Mathlib.Omega.{arith}

@@ -1,5 +1,4 @@
 -- `append::words::append_memory` meets its contract.
-use borrow.Author.Rules.{rules}
 use Rattle.append.proofs.Appending.{appended_then, appended_is, appended_nothing}
 use Rattle.append.proofs.WordLaws.{memory_left_out, memory_written}
 use native.Mathlib.Omega.{arith}

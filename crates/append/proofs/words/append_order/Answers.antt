@@ -1,5 +1,4 @@
 -- `append::words::append_order` meets its contract.
-use borrow.Author.Rules.{rules}
 use Rattle.append.proofs.Appending.{appended_is}
 use Rattle.append.proofs.WordLaws.{order_high, order_low}
 use native.Mathlib.Omega.{arith}

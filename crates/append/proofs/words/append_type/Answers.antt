@@ -1,5 +1,4 @@
 -- `append::words::append_type` meets its contract.
-use borrow.Author.Rules.{rules}
 use Rattle.append.proofs.Appending.{appended_is}
 use Rattle.append.proofs.WordLaws.{type_part, type_inside}
 use Rattle.append.proofs.words.append_type.Goals as goal

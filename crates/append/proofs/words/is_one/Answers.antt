@@ -1,5 +1,4 @@
 -- `append::words::is_one` meets its contract.
-use borrow.Author.Rules.{rules}
 use Rattle.append.proofs.WordLaws.{one_up, one_down}
 use Rattle.text.proofs.Signs.{held}
 use Rattle.append.proofs.words.is_one.Goals as goal

@@ -1,7 +1,6 @@
 -- `array::deliver::array_length` meets its contract.
 use native.Mathlib.Omega.{arith}
 use Rattle.array.proofs.DeliveryLaws.{length_made, length_fits}
-use borrow.Author.Rules.{rules}
 use Rattle.array.proofs.deliver.array_length.Goals as goal
 
 pub overflow_mul-result : goal.overflow_mul-result

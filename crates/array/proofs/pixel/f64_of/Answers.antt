@@ -1,7 +1,6 @@
 -- `array::pixel::f64_of` meets its contract.
 use lib.Ieee.{binary64}
 use Rattle.array.proofs.Nans.{no_nan, a_nan}
-use borrow.Author.Rules.{rules}
 use Rattle.array.proofs.pixel.f64_of.Goals as goal
 
 pub float_from_bits-result : goal.float_from_bits-result

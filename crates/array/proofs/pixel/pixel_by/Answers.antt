@@ -8,7 +8,6 @@ use Rattle.raster.specs.Strided.{Width}
 use Rattle.raster.specs.Types.{type_of}
 use Rattle.raster.proofs.Tables.{type_width, type_width_some}
 use Rattle.array.proofs.PixelValues.{half_fits, four_fits, pixel_unsigned, pixel_signed, pixel_narrow, pixel_wide}
-use borrow.Author.Rules.{rules}
 use Rattle.array.proofs.pixel.pixel_by.Goals as goal
 
 pub returns-then-class-eq0 : goal.returns-then-class-eq0

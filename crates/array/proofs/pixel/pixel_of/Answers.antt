@@ -11,7 +11,6 @@ use Rattle.description.specs.Shape.{array_type}
 use Rattle.array.specs.Delivery.{pixel_at}
 use Rattle.array.proofs.DeliveryLaws.{few, steps_fit, steps_are, steps_hold, stored_place}
 use Rattle.array.proofs.PixelLaws.{index_inside}
-use borrow.Author.Rules.{rules}
 use Rattle.array.proofs.pixel.pixel_of.Goals as goal
 
 pub steps_of-t-requires : goal.steps_of-t-requires

@@ -2,7 +2,6 @@
 use mathlib.Core.Path.{◌∙◌}
 use Rattle.text.proofs.Signs.{gave}
 use Rattle.array.proofs.PixelValues.{signed_low, signed_high}
-use borrow.Author.Rules.{rules}
 use Rattle.array.proofs.pixel.signed_of.Goals as goal
 
 pub returns-then-n-h : goal.returns-then-n-h

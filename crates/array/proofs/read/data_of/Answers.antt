@@ -1,7 +1,6 @@
 -- `array::read::data_of` meets its contract.
 use mathlib.Core.Path.{◌∙◌}
 use Rattle.array.proofs.ReadLaws.{data_part}
-use borrow.Author.Rules.{rules}
 use Rattle.array.proofs.read.data_of.Goals as goal
 
 pub returns : goal.returns

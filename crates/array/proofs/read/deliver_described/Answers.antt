@@ -1,11 +1,9 @@
 -- `array::read::deliver_described` meets its contract.
 use mathlib.Core.Path.{sym, ◌∙◌}
 use native.Mathlib.Omega.{arith}
-use borrow.Author.Tests.{not-true, not-false}
 use Rattle.text.proofs.Buffers.{fits, short, of_equal, refuses}
 use Rattle.array.proofs.DeliveryLaws.{length-delivered}
 use Rattle.array.proofs.ReadLaws.{bad_order, good_order}
-use borrow.Author.Rules.{rules}
 use Rattle.array.proofs.read.deliver_described.Goals as goal
 
 pub returns-then-not-is_order : goal.returns-then-not-is_order

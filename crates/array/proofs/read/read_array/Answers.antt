@@ -4,7 +4,6 @@ use Rattle.text.proofs.Buffers.{of_equal}
 use Rattle.keyword.specs.Viewing.{viewed_outcome}
 use Rattle.description.specs.Answers.{described_outcome}
 use Rattle.array.proofs.ReadLaws.{unwritten, row_inside, no_block, no_description, array_is, array_valid, no_array, array_by}
-use borrow.Author.Rules.{rules}
 use Rattle.array.proofs.read.read_array.Goals as goal
 
 pub data_of-requires : goal.data_of-requires

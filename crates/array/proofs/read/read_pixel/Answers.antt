@@ -3,7 +3,6 @@ use mathlib.Core.Path.{sym, ap, ◌∙◌}
 use Rattle.keyword.specs.Viewing.{viewed_outcome}
 use Rattle.description.specs.Answers.{described_outcome}
 use Rattle.array.proofs.ReadLaws.{row_inside, no_block, no_description, array_is, array_valid, no_pixel, pixel_by}
-use borrow.Author.Rules.{rules}
 use Rattle.array.proofs.read.read_pixel.Goals as goal
 
 pub data_of-requires : goal.data_of-requires

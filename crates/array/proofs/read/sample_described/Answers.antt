@@ -1,8 +1,6 @@
 -- `array::read::sample_described` meets its contract.
 use mathlib.Core.Path.{sym, ◌∙◌}
-use borrow.Author.Tests.{not-true, not-false}
 use Rattle.array.proofs.ReadLaws.{sample_refused, sample_is}
-use borrow.Author.Rules.{rules}
 use Rattle.array.proofs.read.sample_described.Goals as goal
 
 pub returns-then-not-is_index : goal.returns-then-not-is_index

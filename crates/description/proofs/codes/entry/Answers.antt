@@ -1,6 +1,5 @@
 -- `description::codes::entry` meets its contract.
 use Rattle.description.proofs.CodeLaws.{chosen, passed_over}
-use borrow.Author.Rules.{rules}
 use Rattle.description.proofs.codes.entry.Goals as goal
 
 pub returns-then-equal : goal.returns-then-equal

@@ -1,7 +1,6 @@
 -- `description::codes::late_type_code` meets its contract.
 use Rattle.raster.specs.Types.{types, type_words}
 use Rattle.description.proofs.CodeLaws.{in_front, past_the_end}
-use borrow.Author.Rules.{rules}
 use Rattle.description.proofs.codes.late_type_code.Goals as goal
 
 pub returns : goal.returns

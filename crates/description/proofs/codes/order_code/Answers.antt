@@ -1,7 +1,6 @@
 -- `description::codes::order_code` meets its contract.
 use Rattle.raster.specs.Types.{code_of, order_words}
 use Rattle.description.proofs.CodeLaws.{in_front, past_the_end}
-use borrow.Author.Rules.{rules}
 use Rattle.description.proofs.codes.order_code.Goals as goal
 
 pub returns : goal.returns

@@ -1,7 +1,6 @@
 -- `description::codes::type_code` meets its contract.
 use Rattle.raster.specs.Types.{code_of, types, type_words}
 use Rattle.description.proofs.CodeLaws.{in_front}
-use borrow.Author.Rules.{rules}
 use Rattle.description.proofs.codes.type_code.Goals as goal
 
 pub returns : goal.returns

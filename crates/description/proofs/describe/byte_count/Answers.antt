@@ -1,7 +1,6 @@
 -- `description::describe::byte_count` meets its contract.
 use native.Mathlib.Nat.{mul-le-mul}
 use native.Mathlib.Omega.{arith}
-use borrow.Author.Rules.{rules}
 use Rattle.description.proofs.describe.byte_count.Goals as goal
 
 pub overflow_mul-result : goal.overflow_mul-result

@@ -4,7 +4,6 @@ use lib.ListN.{length}
 use Rattle.raster.specs.Axis.{configurations}
 use Rattle.description.specs.Answers.{dim_list}
 use Rattle.description.specs.declared.dimensions.Dims.{Dims}
-use borrow.Author.Rules.{rules}
 use Rattle.description.proofs.describe.configuration_count.Goals as goal
 
 pub returns-in-One : goal.returns-in-One

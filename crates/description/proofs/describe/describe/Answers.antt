@@ -2,7 +2,6 @@
 use mathlib.Core.Path.{sym, ap, ◌∙◌}
 use Rattle.keyword.specs.Viewing.{viewed_outcome}
 use Rattle.description.proofs.DescribeLaws.{no_block, of_block}
-use borrow.Author.Rules.{rules}
 use Rattle.description.proofs.describe.describe.Goals as goal
 
 pub returns-in-Failed : goal.returns-in-Failed

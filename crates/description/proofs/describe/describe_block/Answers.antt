@@ -3,7 +3,6 @@ use mathlib.Core.Path.{sym, ap, ◌∙◌}
 use Rattle.description.specs.Answers.{worded_outcome, measured_outcome}
 use Rattle.description.proofs.DescribeLaws.{general_block, dims_read, bad_words, bad_dims, good_dims}
 use Rattle.description.proofs.DimLaws.{dims_small}
-use borrow.Author.Rules.{rules}
 use Rattle.description.proofs.describe.describe_block.Goals as goal
 
 pub returns-then-row-ne1 : goal.returns-then-row-ne1

@@ -3,7 +3,6 @@ use mathlib.Core.Path.{sym, ap}
 use Rattle.description.specs.Answers.{dim_list}
 use Rattle.description.specs.Parts.{extents_of}
 use Rattle.description.specs.declared.dimensions.Dims.{Dims}
-use borrow.Author.Rules.{rules}
 use Rattle.description.proofs.describe.extents_of.Goals as goal
 
 pub returns-in-One : goal.returns-in-One

@@ -2,7 +2,6 @@
 use mathlib.Core.Path.{sym, ap, ◌∙◌}
 use Rattle.description.specs.Answers.{numbered_outcome}
 use Rattle.description.proofs.DescribeLaws.{bad_numbers, by_numbers}
-use borrow.Author.Rules.{rules}
 use Rattle.description.proofs.describe.number_array.Goals as goal
 
 pub returns-in-Failed : goal.returns-in-Failed

@@ -3,7 +3,6 @@ use mathlib.Core.Path.{sym, ap, ◌∙◌}
 use Rattle.keyword.specs.Viewing.{value_bytes}
 use Rattle.description.specs.Answers.{ranged_outcome}
 use Rattle.description.proofs.DimLaws.{dim_absent, dim_there}
-use borrow.Author.Rules.{rules}
 use Rattle.description.proofs.dimensions.dim_of.Goals as goal
 
 pub returns-in-Missing : goal.returns-in-Missing

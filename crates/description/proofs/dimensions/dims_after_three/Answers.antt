@@ -2,7 +2,6 @@
 use mathlib.Core.Path.{sym, ap, ◌∙◌}
 use Rattle.keyword.specs.Viewing.{value_bytes}
 use Rattle.description.proofs.DimLaws.{no_more, too_many}
-use borrow.Author.Rules.{rules}
 use Rattle.description.proofs.dimensions.dims_after_three.Goals as goal
 
 pub returns-in-Missing : goal.returns-in-Missing

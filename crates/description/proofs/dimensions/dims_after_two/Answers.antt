@@ -4,7 +4,6 @@ use Rattle.keyword.specs.Trace.{Trace}
 use Rattle.description.specs.Answers.{dim_option}
 use Rattle.description.specs.Parts.{dim_read}
 use Rattle.description.proofs.DimLaws.{no_more, missing, bad_dim, next_dim}
-use borrow.Author.Rules.{rules}
 use Rattle.description.proofs.dimensions.dims_after_two.Goals as goal
 
 pub returns-in-Missing : goal.returns-in-Missing

@@ -2,7 +2,6 @@
 use mathlib.Core.Path.{sym, ap, ◌∙◌}
 use Rattle.description.specs.Answers.{dim_option}
 use Rattle.description.proofs.DimLaws.{no_more, missing, bad_dim, next_dim}
-use borrow.Author.Rules.{rules}
 use Rattle.description.proofs.dimensions.dims_of.Goals as goal
 
 pub returns-in-Missing : goal.returns-in-Missing

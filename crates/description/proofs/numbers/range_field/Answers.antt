@@ -2,7 +2,6 @@
 use mathlib.Core.Path.{ap}
 use Rattle.keyword.specs.Viewing.{value_bytes}
 use Rattle.description.proofs.FieldLaws.{range_absent, range_there}
-use borrow.Author.Rules.{rules}
 use Rattle.description.proofs.numbers.range_field.Goals as goal
 
 pub returns-in-Missing : goal.returns-in-Missing

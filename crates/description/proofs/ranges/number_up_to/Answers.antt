@@ -2,7 +2,6 @@
 use mathlib.Core.Path.{sym, ap, ◌∙◌}
 use Rattle.reading.specs.Answers.{count_option}
 use Rattle.description.proofs.FieldLaws.{not_counted, above_most, up_to_most}
-use borrow.Author.Rules.{rules}
 use Rattle.description.proofs.ranges.number_up_to.Goals as goal
 
 pub returns-in_default : goal.returns-in_default

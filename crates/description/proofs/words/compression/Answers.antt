@@ -2,7 +2,6 @@
 use mathlib.Core.Path.{ap}
 use Rattle.keyword.specs.Viewing.{value_bytes}
 use Rattle.description.proofs.FieldLaws.{word_absent, word_there}
-use borrow.Author.Rules.{rules}
 use Rattle.description.proofs.words.compression.Goals as goal
 
 pub returns-in-Missing : goal.returns-in-Missing

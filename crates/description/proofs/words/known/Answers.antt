@@ -3,7 +3,6 @@ use mathlib.Core.Path.{sym, ap}
 use Rattle.scan.specs.Outcome.{present}
 use Rattle.description.specs.Answers.{code_option}
 use Rattle.description.specs.declared.codes.Code.{Code}
-use borrow.Author.Rules.{rules}
 use Rattle.description.proofs.words.known.Goals as goal
 
 pub returns-in-Known : goal.returns-in-Known

@@ -2,7 +2,6 @@
 use mathlib.Core.Path.{sym, ap, ◌∙◌}
 use Rattle.description.specs.Answers.{coded_outcome}
 use Rattle.description.proofs.DescribeLaws.{bad_type, bad_order, bad_compression, good_words}
-use borrow.Author.Rules.{rules}
 use Rattle.description.proofs.words.words_of.Goals as goal
 
 pub returns-in-Failed : goal.returns-in-Failed

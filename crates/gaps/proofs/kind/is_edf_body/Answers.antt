@@ -1,7 +1,5 @@
 -- `gaps::kind::is_edf_body` meets its contract.
 use mathlib.Core.Path.{sym, ◌∙◌}
-use borrow.Author.Rules.{rules}
-use borrow.Author.Tests.{not-true, not-false}
 use Rattle.gaps.proofs.KindLaws.{edf_miss, edf_hit}
 use Rattle.gaps.proofs.kind.is_edf_body.Goals as goal
 

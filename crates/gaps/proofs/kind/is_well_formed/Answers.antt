@@ -1,10 +1,6 @@
-use mathlib.Core.Path.{◌≡◌, refl, sym, ◌∙◌}
-use Prim.Native.Nat.{◌-◌}
+use mathlib.Core.Path.{◌≡◌, sym, ◌∙◌}
 use native.Mathlib.Omega.{arith}
-use borrow.Author.Rules.{rules}
-use lib.ListN.{length}
-use Rattle.scan.specs.Outcome.{is_some}
-use Rattle.header.specs.Statements.{statement_at, statements_from}
+use Rattle.header.specs.Statements.{statement_at}
 use Rattle.header.specs.declared.Next.TheVariants.{One}
 use Rattle.header.proofs.Leading.{statement-lies}
 use Rattle.gaps.proofs.KindLaws.{well_end, well_malformed, well_on}

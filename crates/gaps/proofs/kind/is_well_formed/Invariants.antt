@@ -1,14 +1,9 @@
 -- `gaps::kind::is_well_formed` meets its contract. The invariant: the answer from `at` on is the answer.
-use mathlib.Core.Path.{◌≡◌, refl, sym, ◌∙◌}
+use mathlib.Core.Path.{◌≡◌}
 use Prim.Native.Nat.{◌-◌}
-use native.Mathlib.Omega.{arith}
-use borrow.Author.Rules.{rules}
 use lib.ListN.{length}
 use Rattle.scan.specs.Outcome.{is_some}
-use Rattle.header.specs.Statements.{statement_at, statements_from}
-use Rattle.header.specs.declared.Next.TheVariants.{One}
-use Rattle.header.proofs.Leading.{statement-lies}
-use Rattle.gaps.proofs.KindLaws.{well_end, well_malformed, well_on}
+use Rattle.header.specs.Statements.{statements_from}
 use Rattle.gaps.proofs.kind.is_well_formed.Given as goal
 
 abbrev pub invariant-loop-t : goal.invariant-loop-t

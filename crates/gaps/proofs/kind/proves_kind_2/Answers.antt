@@ -1,7 +1,6 @@
 -- `gaps::kind::proves_kind_2` meets its contract.
 use mathlib.Core.Path.{◌≡◌, sym, ap, ◌∙◌}
 use native.Mathlib.Omega.{arith}
-use borrow.Author.Rules.{rules}
 use lib.Seq.{length-take-le}
 use Rattle.scan.specs.Outcome.{ok}
 use Rattle.header.specs.Answers.{framed_outcome}

@@ -1,7 +1,6 @@
 -- `gaps::kind::starts_with_edf_key` meets its contract.
 use mathlib.Core.Path.{◌≡◌, sym, ◌∙◌}
 use native.Mathlib.Omega.{arith}
-use borrow.Author.Rules.{rules}
 use Rattle.header.specs.Statements.{statement_at}
 use Rattle.header.specs.declared.Next.TheVariants.{One}
 use Rattle.header.proofs.Leading.{statement-lies, part-key}

@@ -1,12 +1,7 @@
-use mathlib.Core.Path.{◌≡◌, refl, sym, ◌∙◌}
-use Prim.Native.Nat.{◌+◌, ◌-◌}
+use mathlib.Core.Path.{sym, ◌∙◌}
+use Prim.Native.Nat.{◌+◌}
 use native.Mathlib.Omega.{arith}
-use borrow.Author.Rules.{rules}
-use borrow.Author.Tests.{not-false}
-use lib.ListN.{length}
-use Rattle.scan.specs.Search.{first_from}
 use Rattle.scan.proofs.Searches.{search_end}
-use Rattle.text.specs.Whitespace.{visible}
 use Rattle.gaps.proofs.SkipLaws.{blank_past}
 use Rattle.gaps.proofs.skip.find_past_blanks.Goals as goal
 

@@ -1,14 +1,9 @@
 -- `gaps::skip::find_past_blanks` meets its contract: what is passed over is whitespace, and the rest is searched byte by byte.
-use mathlib.Core.Path.{◌≡◌, refl, sym, ◌∙◌}
-use Prim.Native.Nat.{◌+◌, ◌-◌}
-use native.Mathlib.Omega.{arith}
-use borrow.Author.Rules.{rules}
-use borrow.Author.Tests.{not-false}
+use mathlib.Core.Path.{◌≡◌}
+use Prim.Native.Nat.{◌-◌}
 use lib.ListN.{length}
 use Rattle.scan.specs.Search.{first_from}
-use Rattle.scan.proofs.Searches.{search_end}
 use Rattle.text.specs.Whitespace.{visible}
-use Rattle.gaps.proofs.SkipLaws.{blank_past}
 use Rattle.gaps.proofs.skip.find_past_blanks.Given as goal
 
 abbrev pub invariant-loop-i : goal.invariant-loop-i

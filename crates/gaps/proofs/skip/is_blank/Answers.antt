@@ -1,11 +1,5 @@
-use mathlib.Core.Path.{◌≡◌, refl}
-use mathlib.Core.Bool.{◌&&◌}
-use Prim.Native.Nat.{◌-◌}
-use lib.ListN.{length, drop}
-use Rattle.text.specs.Text.{every}
 use Rattle.text.specs.Whitespace.{whitespace}
 use Rattle.header.proofs.BodySearch.{tested_all, tested_more}
-use borrow.Author.Rules.{rules}
 use Rattle.gaps.proofs.skip.is_blank.Goals as goal
 
 pub loop-i-preserved : goal.loop-i-preserved

@@ -1,12 +1,10 @@
 -- `gaps::skip::is_blank` meets its contract. The invariant: the answer is that of the bytes passed, and that of those left.
-use mathlib.Core.Path.{◌≡◌, refl}
+use mathlib.Core.Path.{◌≡◌}
 use mathlib.Core.Bool.{◌&&◌}
 use Prim.Native.Nat.{◌-◌}
 use lib.ListN.{length, drop}
 use Rattle.text.specs.Text.{every}
 use Rattle.text.specs.Whitespace.{whitespace}
-use Rattle.header.proofs.BodySearch.{tested_all, tested_more}
-use borrow.Author.Rules.{rules}
 use Rattle.gaps.proofs.skip.is_blank.Given as goal
 
 abbrev pub invariant-loop-i : goal.invariant-loop-i

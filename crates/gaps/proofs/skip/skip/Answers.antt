@@ -1,7 +1,5 @@
 -- `gaps::skip::skip` meets its contract.
 use mathlib.Core.Path.{sym, ◌∙◌}
-use borrow.Author.Rules.{rules}
-use borrow.Author.Tests.{not-true}
 use Rattle.gaps.proofs.SkipLaws.{skip_out, skip_here, skip_found}
 use Rattle.gaps.proofs.skip.skip.Goals as goal
 

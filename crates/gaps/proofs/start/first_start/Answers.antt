@@ -1,6 +1,5 @@
 -- `gaps::start::first_start` meets its contract.
 use mathlib.Core.Path.{sym, ◌∙◌}
-use borrow.Author.Rules.{rules}
 use Rattle.gaps.proofs.StartLaws.{first_at_0, first_kind_2, first_plain}
 use Rattle.gaps.proofs.start.first_start.Goals as goal
 

@@ -1,5 +1,4 @@
 -- `gaps::start::next_start` meets its contract.
-use borrow.Author.Rules.{rules}
 use Rattle.gaps.proofs.StartLaws.{next_plain, next_other}
 use Rattle.gaps.proofs.start.next_start.Goals as goal
 

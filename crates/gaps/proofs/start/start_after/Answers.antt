@@ -1,5 +1,4 @@
 -- `gaps::start::start_after` meets its contract.
-use borrow.Author.Rules.{rules}
 use Rattle.gaps.proofs.StartLaws.{after_none, after_some}
 use Rattle.gaps.proofs.start.start_after.Goals as goal
 

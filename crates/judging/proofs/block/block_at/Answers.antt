@@ -4,7 +4,6 @@ use native.Mathlib.Omega.{arith}
 use Rattle.header.specs.Answers.{framed_outcome}
 use Rattle.header.proofs.FrameLaws.{header_sound, header_inside, header_order}
 use Rattle.judging.proofs.BlockSteps.{unframed, framed}
-use borrow.Author.Rules.{rules}
 use Rattle.judging.proofs.block.block_at.Goals as goal
 
 pub judge_statements-requires : goal.judge_statements-requires

@@ -2,9 +2,7 @@
 use mathlib.Core.Path.{sym, ◌∙◌}
 use native.Mathlib.Omega.{arith}
 use Prim.Native.Nat.{◌+◌, ◌≤◌}
-use borrow.Author.Tests.{not-true, not-false}
 use Rattle.judging.proofs.BlockSteps.{too_far, accepted, room}
-use borrow.Author.Rules.{rules}
 use Rattle.judging.proofs.block.judge_end.Goals as goal
 
 pub returns-then-not-fits : goal.returns-then-not-fits

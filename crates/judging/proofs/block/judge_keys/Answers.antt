@@ -2,7 +2,6 @@
 use mathlib.Core.Path.{sym, ap, ◌∙◌}
 use Rattle.judging.specs.Answers.{roled_option}
 use Rattle.judging.proofs.BlockSteps.{no_role, with_role}
-use borrow.Author.Rules.{rules}
 use Rattle.judging.proofs.block.judge_keys.Goals as goal
 
 pub returns-in-Broken : goal.returns-in-Broken

@@ -1,8 +1,6 @@
 -- `judging::block::judge_length` meets its contract.
 use mathlib.Core.Path.{sym, ◌∙◌}
-use borrow.Author.Tests.{not-true, not-false}
 use Rattle.judging.proofs.BlockSteps.{names_file, wrong_length, right_length}
-use borrow.Author.Rules.{rules}
 use Rattle.judging.proofs.block.judge_length.Goals as goal
 
 pub returns-then-not-names_no_file : goal.returns-then-not-names_no_file

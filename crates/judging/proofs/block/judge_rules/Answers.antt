@@ -2,7 +2,6 @@
 use mathlib.Core.Path.{sym, ap, ◌∙◌}
 use Rattle.judging.specs.Answers.{ruled_option}
 use Rattle.judging.proofs.BlockSteps.{first_broken, first_ruled, later_ruled}
-use borrow.Author.Rules.{rules}
 use Rattle.judging.proofs.block.judge_rules.Goals as goal
 
 pub returns-in-Broken : goal.returns-in-Broken

@@ -2,7 +2,6 @@
 use mathlib.Core.Path.{sym, ap, ◌∙◌}
 use Rattle.reading.specs.Answers.{count_option}
 use Rattle.judging.proofs.BlockSteps.{no_size, not_whole, other_length, kept_length}
-use borrow.Author.Rules.{rules}
 use Rattle.judging.proofs.block.judge_size.Goals as goal
 
 pub returns-in_default : goal.returns-in_default

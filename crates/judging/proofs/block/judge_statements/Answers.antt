@@ -3,7 +3,6 @@ use mathlib.Core.Path.{sym, ap, ◌∙◌}
 use lib.Seq.{length-take-le}
 use Rattle.header.specs.Answers.{checked_outcome}
 use Rattle.judging.proofs.BlockSteps.{unparsed, parsed}
-use borrow.Author.Rules.{rules}
 use Rattle.judging.proofs.block.judge_statements.Goals as goal
 
 pub slice_bounds-check_statements-end : goal.slice_bounds-check_statements-end

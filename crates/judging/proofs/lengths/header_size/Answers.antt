@@ -6,7 +6,6 @@ use Rattle.blocks.specs.Keys.{HeaderSizeKey}
 use Rattle.reading.proofs.CountingLaws.{counting_stands}
 use Rattle.reading.proofs.SoughtLaws.{folded, counting_none, counting_some, absent_one, counted_two}
 use Rattle.reading.proofs.SizeLaws.{said_absent, said_value}
-use borrow.Author.Rules.{rules}
 use Rattle.judging.proofs.lengths.header_size.Goals as goal
 
 pub returns-then-kind-eq1 : goal.returns-then-kind-eq1

@@ -3,7 +3,6 @@ use mathlib.Core.Path.{sym, ap}
 use lib.Dec.{eqb}
 use Prim.Native.Nat.{ℕ}
 use Rattle.judging.proofs.LengthLaws.{mod_of_zero}
-use borrow.Author.Rules.{rules}
 use Rattle.judging.proofs.lengths.is_multiple.Goals as goal
 
 pub returns-then-boundary-eq0 : goal.returns-then-boundary-eq0

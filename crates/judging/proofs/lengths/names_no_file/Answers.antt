@@ -4,7 +4,6 @@ use Rattle.header.specs.Answers.{sought_option}
 use Rattle.scan.specs.Outcome.{is_none}
 use Rattle.blocks.specs.Keys.{FileNameKey}
 use Rattle.reading.proofs.SoughtLaws.{folded, counting_none, counting_some, absent_one, counted_two}
-use borrow.Author.Rules.{rules}
 use Rattle.judging.proofs.lengths.names_no_file.Goals as goal
 
 pub returns-then-kind-eq1 : goal.returns-then-kind-eq1

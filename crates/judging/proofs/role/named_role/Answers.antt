@@ -1,7 +1,6 @@
 -- `judging::role::named_role` meets its contract.
 use mathlib.Core.Path.{◌≡◌, sym, ap, ◌∙◌}
 use native.Mathlib.Omega.{arith}
-use borrow.Author.Tests.{not-true, not-false}
 use Rattle.blocks.specs.Keys.{BlockIDKey}
 use Rattle.header.specs.Statements.{statement_at}
 use Rattle.header.specs.declared.Next.TheVariants.{One}
@@ -10,7 +9,6 @@ use Rattle.reading.specs.Answers.{identified_option}
 use Rattle.reading.proofs.EntryLaws.{entries_one, entries_end, entries_malformed}
 use Rattle.judging.proofs.FirstLaws.{key_is, named_empty, named_miss, named_bad, named_good}
 use Rattle.reading.proofs.SoughtLaws.{folded}
-use borrow.Author.Rules.{rules}
 use Rattle.judging.proofs.role.named_role.Goals as goal
 
 pub slice_bounds-same_key-count : goal.slice_bounds-same_key-count

@@ -1,6 +1,5 @@
 -- `judging::role::role_of` meets its contract.
 use Rattle.judging.proofs.FirstLaws.{role_plain, role_general, role_first, role_later}
-use borrow.Author.Rules.{rules}
 use Rattle.judging.proofs.role.role_of.Goals as goal
 
 pub returns-then-rules-eq1 : goal.returns-then-rules-eq1

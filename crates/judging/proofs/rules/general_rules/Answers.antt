@@ -1,13 +1,11 @@
 -- `judging::rules::general_rules` meets its contract.
 use mathlib.Core.Path.{sym, ap, ◌∙◌}
 use native.Mathlib.Omega.{arith}
-use borrow.Author.Tests.{not-true, not-false}
 use Rattle.header.proofs.Leading.{statement-lies}
 use Rattle.reading.specs.Answers.{count_option}
 use Rattle.reading.proofs.EntryLaws.{entries_one}
 use Rattle.judging.proofs.FirstLaws.{unversioned, uncounted, unbounded, general_good}
 use Rattle.reading.proofs.SoughtLaws.{boundary_number}
-use borrow.Author.Rules.{rules}
 use Rattle.judging.proofs.rules.general_rules.Goals as goal
 
 pub value_bytes-requires : goal.value_bytes-requires

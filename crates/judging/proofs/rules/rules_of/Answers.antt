@@ -1,7 +1,6 @@
 -- `judging::rules::rules_of` meets its contract.
 use mathlib.Core.Path.{◌≡◌, sym, ap, ◌∙◌}
 use native.Mathlib.Omega.{arith}
-use borrow.Author.Tests.{not-true, not-false}
 use Rattle.blocks.specs.Counting.{is_edf_key}
 use Rattle.blocks.specs.Keys.{VersionKey, BlockIDKey}
 use Rattle.header.specs.Statements.{statement_at}
@@ -10,7 +9,6 @@ use Rattle.header.proofs.Leading.{statement-lies, part-key}
 use Rattle.reading.proofs.EntryLaws.{entries_one, entries_end, entries_malformed}
 use Rattle.judging.proofs.FirstLaws.{key_is, rules_empty, rules_plain, rules_version, rules_id, rules_other}
 use Rattle.reading.proofs.SoughtLaws.{folded}
-use borrow.Author.Rules.{rules}
 use Rattle.judging.proofs.rules.rules_of.Goals as goal
 
 pub slice_bounds-is_edf_key-count : goal.slice_bounds-is_edf_key-count

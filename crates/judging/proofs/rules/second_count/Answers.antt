@@ -8,7 +8,6 @@ use Rattle.header.proofs.Leading.{statement-lies, part-key}
 use Rattle.reading.proofs.EntryLaws.{entries_one, entries_end, entries_malformed}
 use Rattle.judging.proofs.FirstLaws.{key_is, second_empty, second_hit, second_miss}
 use Rattle.reading.proofs.SoughtLaws.{folded}
-use borrow.Author.Rules.{rules}
 use Rattle.judging.proofs.rules.second_count.Goals as goal
 
 pub slice_bounds-same_key-count : goal.slice_bounds-same_key-count

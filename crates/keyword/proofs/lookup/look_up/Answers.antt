@@ -1,6 +1,5 @@
 -- `keyword::lookup::look_up` meets its contract.
 use Rattle.keyword.proofs.Lookups.{value_alone}
-use borrow.Author.Rules.{rules}
 use Rattle.keyword.proofs.lookup.look_up.Goals as goal
 
 pub returns : goal.returns

@@ -2,7 +2,6 @@
 use mathlib.Core.Path.{sym, ◌∙◌}
 use borrow.Author.Tests.{not-true, not-false}
 use Rattle.keyword.proofs.Lookups.{in_own, not_shared, edf_key, in_general, in_neither, traced_by}
-use borrow.Author.Rules.{rules}
 use Rattle.keyword.proofs.lookup.trace.Goals as goal
 
 pub returns-then-not-b : goal.returns-then-not-b

@@ -2,7 +2,6 @@
 use mathlib.Core.Path.{sym, ap, ◌∙◌}
 use Rattle.header.specs.Answers.{sought_option}
 use Rattle.keyword.proofs.Lookups.{none_past, none_found, found_lies, one_found}
-use borrow.Author.Rules.{rules}
 use Rattle.keyword.proofs.lookup.value_in.Goals as goal
 
 pub returns-then-file-left : goal.returns-then-file-left

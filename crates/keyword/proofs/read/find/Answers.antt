@@ -2,7 +2,6 @@
 use mathlib.Core.Path.{sym, ap, ◌∙◌}
 use Rattle.keyword.specs.Viewing.{viewed_outcome}
 use Rattle.keyword.proofs.Reading.{no_view, not_there, there}
-use borrow.Author.Rules.{rules}
 use Rattle.keyword.proofs.read.find.Goals as goal
 
 pub returns-in-Failed : goal.returns-in-Failed

@@ -3,7 +3,6 @@ use mathlib.Core.Path.{sym, ap, ◌∙◌}
 use Rattle.text.proofs.Buffers.{of_equal}
 use Rattle.keyword.specs.Answers.{located_bytes}
 use Rattle.keyword.proofs.Reading.{text_unread, text_is}
-use borrow.Author.Rules.{rules}
 use Rattle.keyword.proofs.read.read_text.Goals as goal
 
 pub returns-in-Failed : goal.returns-in-Failed

@@ -1,7 +1,6 @@
 -- `keyword::view::view` meets its contract.
 use native.Mathlib.Omega.{arith}
 use Rattle.keyword.proofs.Views.{too_large, opening_few, opening-failed, opening_short, opening_row}
-use borrow.Author.Rules.{rules}
 use Rattle.keyword.proofs.view.view.Goals as goal
 
 pub returns-then-file-gt-FILE_LIMIT : goal.returns-then-file-gt-FILE_LIMIT

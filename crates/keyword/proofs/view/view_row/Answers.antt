@@ -2,7 +2,6 @@
 use mathlib.Core.Path.{sym, ap, ◌∙◌}
 use Rattle.header.specs.Answers.{framed_outcome}
 use Rattle.keyword.proofs.Views.{own_failed, general_failed, with_general, no_general}
-use borrow.Author.Rules.{rules}
 use Rattle.keyword.proofs.view.view_row.Goals as goal
 
 pub returns-in-Failed : goal.returns-in-Failed

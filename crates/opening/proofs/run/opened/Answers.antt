@@ -1,12 +1,10 @@
 use mathlib.Core.Path.{◌≡◌, refl, sym, ◌∙◌}
-use Prim.Native.Nat.{◌-◌, ◌≤◌, ◌<◌}
+use Prim.Native.Nat.{◌≤◌, ◌<◌}
 use native.Mathlib.Omega.{arith}
-use lib.ListN.{length, take, drop}
-use Rattle.blocks.specs.Opening.{identity_among}
 use Rattle.opening.specs.Core.{step_of}
 use Rattle.opening.specs.declared.Step.TheVariants.{Block}
 use Rattle.opening.proofs.Searches.{among_end, among_here, among_on, searched_le, searched_is}
-use Rattle.opening.proofs.Standing.{Stands, starts, ends, room, twice, goes_on}
+use Rattle.opening.proofs.Standing.{starts, ends, room, twice, goes_on}
 use borrow.Author.Rules.{rules}
 use Rattle.opening.proofs.run.opened.Goals as goal
 

@@ -1,14 +1,9 @@
 -- `opening::run::opened` meets its contract: the answer from where the loop stands is the answer from the start.
-use mathlib.Core.Path.{◌≡◌, refl, sym, ◌∙◌}
-use Prim.Native.Nat.{◌-◌, ◌≤◌, ◌<◌}
-use native.Mathlib.Omega.{arith}
+use mathlib.Core.Path.{◌≡◌}
+use Prim.Native.Nat.{◌-◌, ◌≤◌}
 use lib.ListN.{length, take, drop}
 use Rattle.blocks.specs.Opening.{identity_among}
-use Rattle.opening.specs.Core.{step_of}
-use Rattle.opening.specs.declared.Step.TheVariants.{Block}
-use Rattle.opening.proofs.Searches.{among_end, among_here, among_on, searched_le, searched_is}
-use Rattle.opening.proofs.Standing.{Stands, starts, ends, room, twice, goes_on}
-use borrow.Author.Rules.{rules}
+use Rattle.opening.proofs.Standing.{Stands}
 use Rattle.opening.proofs.run.opened.Given as goal
 
 abbrev pub invariant-loop-i : goal.invariant-loop-i

@@ -1,6 +1,5 @@
 -- `opening::steps::answer_at_end` meets its contract.
 use mathlib.Core.Path.{sym, ◌∙◌}
-use borrow.Author.Rules.{rules}
 use Rattle.opening.proofs.steps.answer_at_end.Goals as goal
 
 pub returns-then-count_matches : goal.returns-then-count_matches

@@ -2,7 +2,6 @@
 use borrow.Author.Tests.{eq-eqb}
 use Rattle.blocks.specs.Opening.{count_matches}
 use Rattle.opening.proofs.Searches.{none_counted, counted}
-use borrow.Author.Rules.{rules}
 use Rattle.opening.proofs.steps.count_matches.Goals as goal
 
 pub returns-then-expected-eq0 : goal.returns-then-expected-eq0

@@ -3,7 +3,6 @@ use mathlib.Core.Path.{sym, ap, ◌∙◌}
 use Rattle.scan.specs.Outcome.{ok, failed}
 use Rattle.judging.specs.Answers.{judged_outcome}
 use Rattle.opening.proofs.Turns.{step_ends, step_past, step_by_lem}
-use borrow.Author.Rules.{rules}
 use Rattle.opening.proofs.steps.next_step.Goals as goal
 
 pub returns-then-at_end : goal.returns-then-at_end

@@ -1,8 +1,6 @@
 -- `opening::table::planned` meets its contract: each branch's tests say which case of `opened_into` holds.
 use mathlib.Core.Path.{sym, ◌∙◌}
 use Rattle.opening.proofs.TableLaws.{over_limit, few_rows, as_opened, plans_error, plans_opened}
-use borrow.Author.Rules.{rules}
-use borrow.Author.Tests.{not-true, not-false}
 use Rattle.opening.proofs.table.planned.Goals as goal
 
 pub returns-then-not-within_limit : goal.returns-then-not-within_limit

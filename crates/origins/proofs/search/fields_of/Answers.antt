@@ -1,5 +1,4 @@
 -- `origins::search::fields_of` meets its contract.
-use borrow.Author.Rules.{rules}
 use Rattle.origins.proofs.search.fields_of.Goals as goal
 
 pub returns : goal.returns
