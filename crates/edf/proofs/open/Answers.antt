@@ -1,8 +1,8 @@
 use Rattle.blocks.specs.Opening.{opened_into, table_after}
-use Rattle.std.proofs.Common.{ℕ, get_or, take, arith, refl, ap, ◌≡◌, ◌∙◌, ◌<◌, length, List, rules}
+use Rattle.std.proofs.Common.{ℕ, get_or, take, arith, refl, ap, ◌≡◌, ◌∙◌, length, List, rules}
 use Rattle.std.proofs.Math.ListN.{set}
 use Rattle.blocks.specs.declared.Row.{Row}
-use Rattle.edf.proofs.TableLaws.{over, over_zero, over_more, over-after}
+use Rattle.edf.proofs.TableLaws.{over_zero, over_more, over-after}
 use Rattle.opening.proofs.TableLaws.{no_row}
 use Rattle.edf.proofs.OpeningLaws.{opens_as}
 use Rattle.edf.proofs.open.Goals as goal

@@ -1,5 +1,4 @@
 -- `edf::read_pixel` meets its contract. A slice of u8 holds bytes.
-use borrow.Author.Rules.{rules}
 use Rattle.delivery.proofs.Planes.{octets_all}
 use Rattle.edf.proofs.read_pixel.Goals as goal
 

@@ -6,7 +6,6 @@ use Rattle.description.specs.Answers.{described_outcome}
 use Rattle.delivery.proofs.Planes.{octets_all}
 use Rattle.array.proofs.ReadLaws.{row_inside, array_valid}
 use Rattle.stored.proofs.Laws.{unseen, undescribed, with_description, delivers}
-use borrow.Author.Rules.{rules}
 use Rattle.stored.proofs.stored_array.Goals as goal
 
 pub data_of-requires : goal.data_of-requires

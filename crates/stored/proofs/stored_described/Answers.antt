@@ -1,9 +1,7 @@
 -- `stored::stored_described` meets its contract.
 use mathlib.Core.Path.{refl, sym, ◌∙◌}
-use borrow.Author.Tests.{not-true, not-false}
 use Rattle.scan.specs.Outcome.{ok}
 use Rattle.stored.specs.Stored.{stored_with}
-use borrow.Author.Rules.{rules}
 use Rattle.stored.proofs.stored_described.Goals as goal
 
 pub returns-then-not-is_order : goal.returns-then-not-is_order

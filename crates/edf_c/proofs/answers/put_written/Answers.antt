@@ -2,7 +2,6 @@
 use mathlib.Core.Path.{sym, ap}
 use Rattle.text.specs.Answers.{written_outcome}
 use Rattle.edf_c.proofs.Answering.{succeeds, fails}
-use borrow.Author.Rules.{rules}
 use Rattle.edf_c.proofs.answers.put_written.Goals as goal
 
 pub returns-in-Length : goal.returns-in-Length

@@ -3,7 +3,6 @@ use mathlib.Core.Path.{sym, ap, ◌∙◌}
 use Rattle.description.specs.Answers.{described_outcome}
 use Rattle.records.specs.Numbers.{description_numbers}
 use Rattle.edf_c.proofs.Answering.{maps, maps_none}
-use borrow.Author.Rules.{rules}
 use Rattle.edf_c.proofs.arrays.edf_describe.Goals as goal
 
 pub returns-in-Array : goal.returns-in-Array

@@ -1,6 +1,5 @@
 -- `edf_c::arrays::edf_read_array` meets its contract.
 use Rattle.edf_c.proofs.Answering.{writes}
-use borrow.Author.Rules.{rules}
 use Rattle.edf_c.proofs.arrays.edf_read_array.Goals as goal
 
 pub returns : goal.returns

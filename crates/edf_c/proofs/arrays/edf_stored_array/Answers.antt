@@ -1,7 +1,6 @@
 -- `edf_c::arrays::edf_stored_array` meets its contract.
 use Rattle.edf_c.specs.Stored.{stored_of}
 use Rattle.edf_c.proofs.Storing.{stores, stores_none}
-use borrow.Author.Rules.{rules}
 use Rattle.edf_c.proofs.arrays.edf_stored_array.Goals as goal
 
 pub returns-in-Array : goal.returns-in-Array

@@ -1,6 +1,5 @@
 -- `edf_c::files::edf_list` meets its contract.
 use Rattle.edf_c.proofs.Answering.{writes}
-use borrow.Author.Rules.{rules}
 use Rattle.edf_c.proofs.files.edf_list.Goals as goal
 
 pub returns : goal.returns

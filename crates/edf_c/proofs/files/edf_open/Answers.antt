@@ -1,7 +1,6 @@
 -- `edf_c::files::edf_open` meets its contract.
 use Rattle.edf_c.proofs.Opening.{opens_numbers}
 use Rattle.edf_c.proofs.Tabling.{opens, opens_none}
-use borrow.Author.Rules.{rules}
 use Rattle.edf_c.proofs.files.edf_open.Goals as goal
 
 pub returns-in-Blocks : goal.returns-in-Blocks

@@ -1,6 +1,5 @@
 -- `edf_c::files::edf_part` meets its contract.
 use mathlib.Core.Path.{ap}
-use borrow.Author.Rules.{rules}
 use lib.ListN.{length}
 use Rattle.edf_c.proofs.files.edf_part.Goals as goal
 

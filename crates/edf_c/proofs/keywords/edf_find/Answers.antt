@@ -1,6 +1,5 @@
 -- `edf_c::keywords::edf_find` meets its contract.
 use Rattle.edf_c.proofs.Answering.{finds, finds_none}
-use borrow.Author.Rules.{rules}
 use Rattle.edf_c.proofs.keywords.edf_find.Goals as goal
 
 pub returns-in-At : goal.returns-in-At

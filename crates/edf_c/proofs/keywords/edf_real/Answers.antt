@@ -4,7 +4,6 @@ use Prim.Native.Nat.{ℕ}
 use Rattle.reals.specs.Answers.{measured_outcome}
 use Rattle.edf_c.specs.Reals.{unit_and_float, real_numbers}
 use Rattle.edf_c.proofs.Answering.{maps, maps_none}
-use borrow.Author.Rules.{rules}
 use Rattle.edf_c.proofs.keywords.edf_real.Goals as goal
 
 pub returns-in-Value : goal.returns-in-Value

@@ -1,6 +1,5 @@
 -- `edf_c::keywords::edf_text` meets its contract.
 use Rattle.edf_c.proofs.Answering.{writes}
-use borrow.Author.Rules.{rules}
 use Rattle.edf_c.proofs.keywords.edf_text.Goals as goal
 
 pub returns : goal.returns

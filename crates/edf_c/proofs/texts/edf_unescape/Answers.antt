@@ -1,6 +1,5 @@
 -- `edf_c::texts::edf_unescape` meets its contract.
 use Rattle.edf_c.proofs.Answering.{writes}
-use borrow.Author.Rules.{rules}
 use Rattle.edf_c.proofs.texts.edf_unescape.Goals as goal
 
 pub returns : goal.returns

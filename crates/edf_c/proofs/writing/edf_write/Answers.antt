@@ -4,7 +4,6 @@ use mir.ValLaws.{to_z-of_z}
 use Rattle.frame.proofs.FileLengths.{fits_file}
 use Rattle.edf_c.proofs.Answering.{writes}
 use Rattle.edf_c.proofs.Fields.{of_fields}
-use borrow.Author.Rules.{rules}
 use Rattle.edf_c.proofs.writing.edf_write.Goals as goal
 
 pub returns : goal.returns
