@@ -1,21 +1,16 @@
--- The rule for letters: a byte between the ends of the alphabet becomes the letter 32 above it. `fold` gives at every number what the rule
--- gives.
+-- `fold` gives at every number what the rule for letters gives.
 use mathlib.Core.Path.{◌≡◌, refl, sym, ap, fun_ext}
-use mathlib.Core.Bool.{cond, ◌&&◌}
 use mathlib.Core.List.{List, map}
-use Prim.Native.Nat.{ℕ, ◌+◌, ◌≤◌, ◌<◌}
+use Prim.Native.Nat.{ℕ, ◌≤◌, ◌<◌}
 use native.Mathlib.Omega.{arith}
 use borrow.Author.Tests.{eqb-true, le-leb, lt-leb}
-use lib.Dec.{eqb, leb}
+use lib.Dec.{eqb}
 use Rattle.scan.proofs.Below.{all_at}
 use Rattle.scan.proofs.Cases.{by_order}
 use Rattle.text.specs.Fold.{fold, fold_table}
 use Rattle.text.specs.Key.{strip, key_of}
+use Rattle.text.proofs.FoldRule.{by_rule}
 use Rattle.text.proofs.Folds.{fold_high}
-
--- A byte from `A`, 65, to `Z`, 90, becomes the letter 32 above it, which is the same letter small; every other byte stays.
-unfoldable pub by_rule : ℕ → ℕ
-by_rule b = cond (leb 65 b && leb b 90) (b + 32) b
 
 -- At every byte the list gives what the rule gives: one test, computed over all 256.
 pub byte_unchanged : (b : ℕ) → b < 256 → fold b ≡ by_rule b

@@ -5,6 +5,7 @@ pub mod Digits
 pub mod Escaping
 pub mod Everys
 pub mod FoldList
+pub mod FoldRule
 pub mod Folds
 pub mod KeySteps
 pub mod Numbers
