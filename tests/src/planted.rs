@@ -4,7 +4,7 @@ use crate::answer::{Answer, Call};
 use crate::independence::general::general_counts;
 use crate::independence::{concatenated, answered_alike, Breach};
 use crate::compare::{compare_case, Difference, Reader};
-use crate::generate::{case, letters};
+use crate::generate::case;
 use crate::generate::pairs::{pair, two_general_headers, two_of_kind_1, Law};
 use crate::parallel;
 
@@ -20,7 +20,7 @@ pub fn print_found(titles: &[Title], readers: &[Reader], seed: u64, cases: usize
     std::panic::set_hook(Box::new(|_| ()));
     let found = parallel::for_each(0..readers.len(), |number| first_difference(readers[number], seed, cases));
     for (number, ((file, old, new), difference)) in titles.iter().zip(&found).enumerate() {
-        println!("{number:3} {file:12} {:34} {old}  =>  {new}", place(difference));
+        println!("{number:3} {file:12} {:34} {old}  =>  {new}", place(difference.as_deref()));
     }
     let count = found.iter().flatten().count();
     println!("seed {seed}, at most {cases} cases: {count} of {} faults found", found.len());
@@ -65,25 +65,23 @@ fn laws_broken(reader: Reader, seed: u64, pairs: usize) -> Vec<String> {
     LAWS.iter().filter_map(first).collect()
 }
 
-/// A difference of a reader, and the kind of cases that shows it: the short files first, and the bytes of keys last.
-fn first_difference(reader: Reader, seed: u64, cases: usize) -> Option<(&'static str, Box<Difference>)> {
+/// A difference of a reader, among the short files first; none where the cases show none.
+fn first_difference(reader: Reader, seed: u64, cases: usize) -> Option<Box<Difference>> {
     let look = |number: usize, longest: usize| {
         let case = case(seed, number);
         if case.file.len() > longest { None } else { compare_case(reader, seed, number, &case).err() }
     };
     let soon = (0..cases.min(FIRST)).find_map(|number| look(number, SHORT));
-    let drawn = soon.or_else(|| (0..cases).find_map(|number| look(number, usize::MAX)));
-    let in_keys = || (0..letters::CASES).find_map(|number| compare_case(reader, seed, number, &letters::case(number)).err());
-    drawn.map(|difference| ("case", difference)).or_else(|| Some(("letters", in_keys()?)))
+    soon.or_else(|| (0..cases).find_map(|number| look(number, usize::MAX)))
 }
 
 /// The case, the call's name, and both codes.
-fn place(found: &Option<(&str, Box<Difference>)>) -> String {
-    let Some((kind, difference)) = found else {
+fn place(difference: Option<&Difference>) -> String {
+    let Some(difference) = difference else {
         return "NOT FOUND".to_string();
     };
     let (name, expected, given) = (call_name(&difference.call), code(&difference.expected), code(&difference.given));
-    format!("{kind} {} {name} {expected} {given}", difference.case)
+    format!("case {} {name} {expected} {given}", difference.case)
 }
 
 fn call_name(call: &Call) -> String {
