@@ -1,22 +1,15 @@
 -- Bytes put into a buffer, one run after another.
 use mathlib.Core.Path.{◌≡◌, refl, sym, ap, subst, ◌∙◌}
 use mathlib.Core.List.{List, [], ◌∷◌, ◌++◌, append_assoc, append-nil}
-use Prim.Native.Nat.{ℕ, zero, suc, ◌+◌, ◌≤◌, ◌<◌}
+use Prim.Native.Nat.{ℕ, zero, suc, ◌+◌, ◌≤◌}
 use native.Mathlib.Nat.{not-suc-le-zero, le_of_suc-le-suc}
-use native.Mathlib.Numerals.{add-one}
 use native.Mathlib.Omega.{arith}
-use borrow.Author.Tests.{le-leb}
-use lib.ListN.{length, take, drop, set, replicate, length-append, length-take, length-drop, length-replicate, take-append-drop, drop_of_length-le}
-use lib.Seq.{drop-drop, take_at, drop_at, take-length, take-suc-set}
-use Rattle.scan.specs.Buffer.{over, buffer_after}
-use Rattle.scan.specs.Outcome.{ok}
+use lib.ListN.{length, take, drop, length-append, length-take, length-drop, take-append-drop, drop_of_length-le}
+use lib.Seq.{drop-drop, take_at, drop_at}
+use Rattle.scan.specs.Buffer.{over}
 use Rattle.raster.specs.Strided.{patched}
-use Rattle.append.specs.Append.{over_at, Appended}
-
--- Where there is room, the buffer holds the bytes.
-pub buffer_fits : (w d : List ℕ) → length w ≤ length d → buffer_after (ok w) d ≡ over w d
-unfolding buffer_after
-buffer_fits w d h = simp (le-leb (length w) (length d) h)
+use Rattle.append.specs.Append.{over_at, Appended, HasRoom, AppendedWithin}
+use Rattle.append.specs.declared.appender.Appender.{Appender}
 
 -- Bytes over the front of a part are over the front of the whole.
 over-front : (w l : List ℕ) (k : ℕ) → length w ≤ k → over w (take k l) ++ drop k l ≡ over w l
@@ -68,41 +61,21 @@ appended_then {w} {v} {d} {e} {l} {at} {next} a b =
           ∙ then_at w v d at (omega (arith, a.next_is, a.room));
     }
 
--- The same of equal bytes.
-pub appended_is : {w v d e : List ℕ} {at next : ℕ} → w ≡ v → Appended w at d e next → Appended v at d e next
-appended_is {d = d} {e} {at} {next} q a = subst (λ (x : List ℕ). Appended x at d e next) q a
-
 -- At the front of the buffer.
-pub next_length : {w d e : List ℕ} {next : ℕ} → Appended w 0 d e next → next ≡ length w
-next_length {w} a = omega (arith, a.next_is)
-
 pub appended_front : {w d e : List ℕ} {next : ℕ} → Appended w 0 d e next → e ≡ over w d
 unfolding over_at
 appended_front a = a.holds
 
--- ---- One byte, many times
-
-replicate_last : (b i : ℕ) → replicate (i + 1) b ≡ replicate i b ++ (b ∷ [])
-replicate_last b zero = refl
-replicate_last b (suc i) = let e : suc i + 1 ≡ suc (i + 1) = omega arith in rw e (ap (λ (l : List ℕ). b ∷ l) (replicate_last b i))
-
--- One more of them.
-pub repeated_more : (out : List ℕ) (b i : ℕ) → take i out ≡ replicate i b → i < length out → take (i + 1) (set out i b) ≡ replicate (i + 1) b
-repeated_more out b i e h =
-    ap (λ (k : ℕ). take k (set out i b)) (add-one i) ∙ take-suc-set out i b h ∙ ap (λ (l : List ℕ). l ++ (b ∷ [])) e ∙ sym (replicate_last b i)
-
--- As many as the buffer has.
-pub repeated_all : (out : List ℕ) (b i n : ℕ) → take i out ≡ replicate i b → i ≡ n → length out ≡ n → out ≡ replicate n b
-repeated_all out b i n e h l =
-    sym (take-length out) ∙ ap (λ (k : ℕ). take k out) (l ∙ sym h) ∙ e ∙ ap (λ (k : ℕ). replicate k b) h
+-- ---- A part that is written whole
 
 over_all : (w d : List ℕ) → length d ≤ length w → over w d ≡ w
 over_all w d h = ap (λ (l : List ℕ). w ++ l) (drop_of_length-le d h) ∙ append-nil w
 
--- A part that is filled.
-pub repeated_part : (b n : ℕ) {last : List ℕ} (d : List ℕ) → length d ≡ n → last ≡ replicate (length d) b → last ≡ over (replicate n b) d
-repeated_part b n {last} d e h =
-    h ∙ ap (λ (k : ℕ). replicate k b) e ∙ sym (over_all (replicate n b) d (omega (arith, length-replicate n b)))
+pub whole_appended : (w d last : List ℕ) (at k next : ℕ) → last ≡ w → k ≡ length w → next ≡ at + length w → next ≤ length d
+    → Appended w at d (patched at k d last) next
+whole_appended w d last at k next e h n room =
+    part_appended w d last at k next
+    (e ∙ sym (over_all w (take k (drop at d)) (simp (length-take, length-drop) (omega arith)))) (omega arith) n room
 
 -- ---- Parts of what was appended
 
@@ -117,5 +90,42 @@ unfolding over_at
 front_is {w} {d} {e} {next} a =
     ap (take next) a.holds ∙ take_at w (drop (length w) d) next (omega (arith, a.next_is))
 
-pub front_length : {w d e : List ℕ} {next : ℕ} → Appended w 0 d e next → next ≡ length (take next e)
-front_length {w} a = omega (arith, a.next_is, ap length (front_is a))
+-- ---- At most so many bytes
+
+pub within : {w : List ℕ} {a b : Appender} → Appended w a.at a.bytes.now b.bytes.now b.at → b.bytes.ghost_name ≡ a.bytes.ghost_name
+    → AppendedWithin (length w) w a b
+within x h = record { appended = x; upper_bound = omega (arith, x.next_is); same_length = appended_length x; same_buffer = h }
+
+-- No more than they are.
+pub within_exact : {m : ℕ} {w : List ℕ} {a b : Appender} → AppendedWithin m w a b → AppendedWithin (length w) w a b
+within_exact x = within x.appended x.same_buffer
+
+-- Nothing.
+pub within_nothing : {m : ℕ} {a : Appender} → HasRoom m a → AppendedWithin m [] a a
+within_nothing {a = a} h =
+    record { appended = appended_nothing a.bytes.now a.at (omega (arith, h)); upper_bound = omega arith; same_length = refl; same_buffer = refl }
+
+-- One run after another.
+pub within_then : {m k : ℕ} {w v : List ℕ} {a b c : Appender} → AppendedWithin m w a b → AppendedWithin k v b c → AppendedWithin (m + k) (w ++ v) a c
+within_then x y =
+    record {
+      appended = appended_then x.appended y.appended;
+      upper_bound = omega (arith, x.upper_bound, y.upper_bound);
+      same_length = y.same_length ∙ x.same_length;
+      same_buffer = y.same_buffer ∙ x.same_buffer;
+    }
+
+-- The same of equal bytes.
+pub within_is : {m : ℕ} {w v : List ℕ} {a b : Appender} → w ≡ v → AppendedWithin m w a b → AppendedWithin m v a b
+within_is {m} {a = a} {b} q x = subst (λ (l : List ℕ). AppendedWithin m l a b) q x
+
+pub within_more : {m k : ℕ} {w : List ℕ} {a b : Appender} → m ≤ k → AppendedWithin m w a b → AppendedWithin k w a b
+within_more h x =
+    record { appended = x.appended; upper_bound = omega (arith, h, x.upper_bound); same_length = x.same_length; same_buffer = x.same_buffer }
+
+-- From the front of a buffer, which then is `e`.
+pub within_front : {m : ℕ} {w d e : List ℕ} {a b : Appender} → a.bytes.now ≡ d → a.at ≡ 0 → b.bytes.now ≡ e → AppendedWithin m w a b
+    → Appended w 0 d e b.at
+within_front {w = w} {e = e} {a = a} {b} same front after x =
+    let moved = subst (λ (k : ℕ). Appended w k a.bytes.now b.bytes.now b.at) front x.appended in
+    subst (λ (l : List ℕ). Appended w 0 l e b.at) same (subst (λ (l : List ℕ). Appended w 0 a.bytes.now l b.at) after moved)

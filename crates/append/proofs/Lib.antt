@@ -1,2 +1,3 @@
 pub mod Appending
+pub mod Three
 pub mod WordLaws

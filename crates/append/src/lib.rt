@@ -1,6 +1,6 @@
 #![tactic(auto)]
 
-// Bytes, numbers, identities and words appended to a buffer. Each function answers the offset after what it appends.
+// Bytes, numbers, identities and words appended to a buffer.
 
-pub mod bytes;
+pub mod appender;
 pub mod words;

@@ -1,6 +1,5 @@
 pub mod DeliveryLaws
 pub mod Main
-pub mod Nans
 pub mod Pieces
 pub mod PixelLaws
 pub mod PixelValues

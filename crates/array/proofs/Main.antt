@@ -1,4 +1,5 @@
 -- One pixel and the array delivered are one thing seen twice.
+use Rattle.std.specs.Prelude.{Ok}
 use mathlib.Core.Path.{◌≡◌, sym, ap, ◌∙◌}
 use mathlib.Core.Bool.{true}
 use mathlib.Core.List.{List}
@@ -7,7 +8,6 @@ use native.Mathlib.Nat.{mul-add, mul_assoc, mul_comm, suc-mul, mul-le-mul_right,
 use native.Mathlib.Omega.{arith}
 use lib.ListN.{length, take, drop}
 use lib.Seq.{take_all}
-use Rattle.scan.specs.Outcome.{ok}
 use Rattle.raster.specs.Bytes.{number_of, joined}
 use Rattle.raster.specs.Pixels.{pixel_of}
 use Rattle.raster.specs.Position.{product}
@@ -86,7 +86,7 @@ pixel_delivered d l asked i1 i2 i3 v octets index =
 
 -- ---- The same of what the calls on a file answer
 
-module _ (s : List ℕ) (block asked : ℕ) (a : Array) (w : List ℕ) (e : array_of s block ≡ ok a) (f : array_in s block asked ≡ ok w) where
+module _ (s : List ℕ) (block asked : ℕ) (a : Array) (w : List ℕ) (e : array_of s block ≡ Ok a) (f : array_in s block asked ≡ Ok w) where
   -- "Delivery writes Dims' product times width bytes"
   pub length_of_array : length w ≡ product (array_dims a.description) * (array_type a.description).width
   length_of_array =
@@ -98,9 +98,9 @@ module _ (s : List ℕ) (block asked : ℕ) (a : Array) (w : List ℕ) (e : arra
       → let d = a.description in
       let n = (array_type d).width in
       pixel_in s block i1 i2 i3
-      ≡ ok (pixel_of (array_type d).class n (number_of asked (take n (drop (n * (i1 + d.dim1 * (i2 + d.dim2 * i3))) w))))
+      ≡ Ok (pixel_of (array_type d).class n (number_of asked (take n (drop (n * (i1 + d.dim1 * (i2 + d.dim2 * i3))) w))))
   unfolding pixel_in
   pixel_of_array octets i1 i2 i3 index =
       let x = array_seen s block a e in
       rw (e, index, ← array_written s block asked a w e f)
-      (ap ok (pixel_delivered a.description a.bytes asked i1 i2 i3 x.0 (x.1 octets) index))
+      (ap Ok (pixel_delivered a.description a.bytes asked i1 i2 i3 x.0 (x.1 octets) index))

@@ -13,15 +13,22 @@ use Rattle.scan.specs.Buffer.{over}
 use Rattle.scan.proofs.Cases.{both_true}
 use Rattle.raster.specs.Bytes.{low_first, number_of, joined}
 use Rattle.raster.specs.Element.{offset_bits, element_bits, element_bytes}
-use Rattle.raster.specs.Strided.{Octets, Inside3, delivered_at}
-use Rattle.raster.specs.Types.{Class, unsigned, signed, float, DataType}
+use Rattle.raster.specs.Axis.{order_of}
+use Rattle.raster.specs.Strided.{Octets, Inside3, Stands, place, delivered_at}
+use Rattle.raster.specs.Strides.{steps_of}
+use Rattle.raster.specs.Types.{DataType}
+use Rattle.raster.specs.declared.types.Class.{Class}
+use Rattle.raster.specs.declared.types.Class.TheVariants.{Unsigned as unsigned, Signed as signed, Float as float}
 use Rattle.raster.specs.declared.stride.Steps.{Steps}
 use Rattle.raster.proofs.RoundTrip.{number_bound, number_of_bytes}
 use Rattle.raster.proofs.Stored.{octets_part}
+use Rattle.description.specs.Shape.{array_type}
+use Rattle.description.specs.Valid.{ValidArray}
 use Rattle.description.specs.declared.Description.{Description}
 use Rattle.strides.proofs.RowLaws.{length_element}
 use Rattle.shift.proofs.Sums.{offset_moved}
 use Rattle.array.specs.Delivery.{is_index}
+use Rattle.array.proofs.DeliveryLaws.{steps_hold}
 
 -- ---- Bits are within their width
 
@@ -90,6 +97,21 @@ index_inside d i1 i2 i3 e =
     let p = both_true (ltb i1 d.dim1 && ltb i2 d.dim2) (ltb i3 d.dim3) e in
     let q = both_true (ltb i1 d.dim1) (ltb i2 d.dim2) p.0 in
     (ltb-true i1 d.dim1 q.0, ltb-true i2 d.dim2 q.1, ltb-true i3 d.dim3 p.1)
+
+-- The way to an element: along index 3, then 2, then 1.
+pub record Reached (t : Steps) (w len i1 i2 i3 : ℕ) : Type 0 where
+  pub plane : Stands t.at t.up3 t.down3 0 len i3
+  pub row : Stands (place t.at t.up3 t.down3 i3) t.up2 t.down2 0 len i2
+  pub element : Stands (place (place t.at t.up3 t.down3 i3) t.up2 t.down2 i2) t.up1 t.down1 w len i1
+
+pub element_reached : (d : Description) (i1 i2 i3 : ℕ) {w size : ℕ} {t : Steps} → is_index d i1 i2 i3 ≡ true → ValidArray d size
+    → w ≡ (array_type d).width → t ≡ steps_of w (order_of 3 d.configuration) d.dim1 d.dim2 d.dim3 → Reached t w size i1 i2 i3
+element_reached d i1 i2 i3 {w} {size} {t} e v wide made =
+    let h = index_inside d i1 i2 i3 e in
+    let plane = steps_hold d size v w wide t made (omega arith) i3 h.2 in
+    let row = plane.1 i2 h.1 in
+    let element = row.1 i1 h.0 in
+    record { plane = plane.0; row = row.0; element = (element.0, omega (arith, element.1)) }
 
 -- ---- The bits that code reads: the number, low byte first, of eight bytes
 

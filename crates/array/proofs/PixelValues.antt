@@ -1,24 +1,18 @@
 -- The value that bits stand for, by the class of their type.
-use mathlib.Core.Path.{◌≡◌, refl, ap}
+use mathlib.Core.Path.{◌≡◌}
 use mathlib.Core.Logic.{inl, inr}
-use Prim.Native.Nat.{ℕ, ◌-◌, ◌*◌, ◌^◌, ◌≤◌, ◌<◌}
+use Prim.Native.Nat.{ℕ, ◌*◌, ◌^◌, ◌≤◌, ◌<◌}
 use native.Mathlib.Omega.{arith}
-use borrow.Author.Tests.{eq-eqb, ne_eqb, lt-ltb, le-ltb}
+use borrow.Author.Tests.{eq-eqb, ne_eqb}
 use lib.Ieee.{Float, binary32, binary64, of_bits}
-use lib.IntN.{ℤ, pos, negsuc}
+use lib.IntN.{ℤ}
 use Rattle.raster.specs.Element.{half, signed_of}
 use Rattle.raster.specs.Pixels.{pixel_of}
 use Rattle.raster.specs.Strided.{Width}
-use Rattle.raster.specs.Types.{Class, unsigned, signed, float, class_number}
+use Rattle.raster.specs.declared.types.Class.{Class}
+use Rattle.raster.specs.declared.types.Class.TheVariants.{Unsigned as unsigned, Signed as signed, Float as float}
 use Rattle.raster.specs.declared.Pixel.TheVariants.{Unsigned, Signed, Float32, Float64}
 use Rattle.raster.proofs.RoundTrip.{two_halves}
-use Rattle.raster.proofs.Tables.{is_unsigned, is_signed}
-
-pub signed_low : (h n : ℕ) → n < h → pos n ≡ signed_of h n
-signed_low h n l = rw (lt-ltb n h l)
-
-pub signed_high : (h n : ℕ) → h ≤ n → n < 2 * h → negsuc (h - 1 - (n - h)) ≡ signed_of h n
-signed_high h n l b = rw (le-ltb n h l) (ap negsuc (omega arith))
 
 half_by : (w : ℕ) → Width w → half w ≤ 2 ^ 63
 half_by w (inl e) = rw e (omega arith)
@@ -33,27 +27,19 @@ half_fits w u h n width some eu eh below = rw (eh, eu) (omega (arith, two_halves
 pub four_fits : (w u n : ℕ) → u ≡ w → u ≡ 4 → n < 256 ^ w → n < 2 ^ 32
 four_fits w u n e f h = let g : w ≡ 4 = omega arith in rw g at h
 
-module _ (class : Class) (w n : ℕ) where
-  pub pixel_unsigned : class_number class ≡ 0 → Unsigned n ≡ pixel_of class w n
+module _ {class : Class} (w n : ℕ) where
+  pub pixel_unsigned : class ≡ unsigned → Unsigned n ≡ pixel_of class w n
   unfolding pixel_of
-  pixel_unsigned e = rw (is_unsigned class e)
+  pixel_unsigned e = rw e
 
-  pub pixel_signed : (z : ℤ) → class_number class ≡ 1 → z ≡ signed_of (half w) n → Signed z ≡ pixel_of class w n
+  pub pixel_signed : (z : ℤ) → class ≡ signed → z ≡ signed_of (half w) n → Signed z ≡ pixel_of class w n
   unfolding pixel_of
-  pixel_signed z e q = rw (is_signed class e, q)
+  pixel_signed z e q = rw (e, q)
 
-  -- A class with another number is that of floats.
-  else_float : (c : Class) → (class_number c ≡ 0 → ⊥) → (class_number c ≡ 1 → ⊥) → c ≡ float
-  else_float unsigned a b = absurd (a refl)
-  else_float signed a b = absurd (b refl)
-  else_float float a b = refl
-
-  pub pixel_narrow : (x : Float) → (class_number class ≡ 0 → ⊥) → (class_number class ≡ 1 → ⊥) → w ≡ 4 → x ≡ of_bits binary32 n
-      → Float32 x ≡ pixel_of class w n
+  pub pixel_narrow : (x : Float) → class ≡ float → w ≡ 4 → x ≡ of_bits binary32 n → Float32 x ≡ pixel_of class w n
   unfolding pixel_of
-  pixel_narrow x a b f q = rw (else_float class a b, eq-eqb w 4 f, q)
+  pixel_narrow x e f q = rw (e, eq-eqb w 4 f, q)
 
-  pub pixel_wide : (x : Float) → (class_number class ≡ 0 → ⊥) → (class_number class ≡ 1 → ⊥) → (w ≡ 4 → ⊥) → x ≡ of_bits binary64 n
-      → Float64 x ≡ pixel_of class w n
+  pub pixel_wide : (x : Float) → class ≡ float → (w ≡ 4 → ⊥) → x ≡ of_bits binary64 n → Float64 x ≡ pixel_of class w n
   unfolding pixel_of
-  pixel_wide x a b f q = rw (else_float class a b, ne_eqb w 4 f, q)
+  pixel_wide x e f q = rw (e, ne_eqb w 4 f, q)

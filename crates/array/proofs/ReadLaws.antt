@@ -1,4 +1,6 @@
 -- The array of a block of a file and one pixel of it: by the view of the block, its description and its data.
+use Rattle.std.specs.Prelude.{Ok, Err}
+use Rattle.scan.specs.Outcome.{Outcome, refused, require}
 use mathlib.Core.Path.{◌≡◌, refl, sym, subst}
 use mathlib.Core.Bool.{true, false}
 use mathlib.Core.List.{List}
@@ -7,7 +9,6 @@ use borrow.Author.Tests.{le-leb}
 use lib.ListN.{length}
 use Rattle.scan.specs.Buffer.{length_written, buffer_after}
 use Rattle.scan.specs.Byte.{part_of}
-use Rattle.scan.specs.Outcome.{Outcome, ok, failed, refused, require}
 use Rattle.scan.specs.declared.Error.{Error}
 use Rattle.text.proofs.Buffers.{of_equal}
 use Rattle.keyword.specs.Keyword.{View, view_of}
@@ -32,7 +33,7 @@ module _ (d : Description) (l : List ℕ) where
   unfolding delivered_in
   bad_order asked e = rw e
 
-  pub good_order : (asked : ℕ) → is_order asked ≡ true → ok (delivered d asked l) ≡ delivered_in d l asked
+  pub good_order : (asked : ℕ) → is_order asked ≡ true → Ok (delivered d asked l) ≡ delivered_in d l asked
   unfolding delivered_in
   good_order asked e = rw e
 
@@ -41,15 +42,15 @@ module _ (d : Description) (l : List ℕ) where
     unfolding sampled_in
     sample_refused e = rw e
 
-    pub sample_is : is_index d i1 i2 i3 ≡ true → {p : Pixel} → p ≡ pixel_at d l i1 i2 i3 → ok p ≡ sampled_in d l i1 i2 i3
+    pub sample_is : is_index d i1 i2 i3 ≡ true → {p : Pixel} → p ≡ pixel_at d l i1 i2 i3 → Ok p ≡ sampled_in d l i1 i2 i3
     unfolding sampled_in
     sample_is e q = rw (e, q)
 
 -- In an error the buffer is as it was.
-pub unwritten : {o : Outcome (List ℕ)} {x : Error} → failed x ≡ o → (out : List ℕ)
-    → (failed x ≡ length_written o out) × (out ≡ buffer_after o out)
+pub unwritten : {o : Outcome (List ℕ)} {x : Error} → Err x ≡ o → (out : List ℕ)
+    → (Err x ≡ length_written o out) × (out ≡ buffer_after o out)
 unfolding length_written buffer_after
-unwritten {o} {x} e out = of_equal out (failed x) o e (refl, refl)
+unwritten {o} {x} e out = of_equal out (Err x) o e (refl, refl)
 
 module _ (s : List ℕ) where
   -- ---- The data of a block
@@ -60,23 +61,23 @@ module _ (s : List ℕ) where
   data_part b h = rw (le-leb (b.row.start + b.row.header + b.row.size) (length s) h)
 
   module _ (k : ℕ) where
-    pub row_inside : (b : Block) → ok (view_at s b) ≡ view_of s k → b.row.start + b.row.header + b.row.size ≤ length s
+    pub row_inside : (b : Block) → Ok (view_at s b) ≡ view_of s k → b.row.start + b.row.header + b.row.size ≤ length s
     unfolding view_at
     row_inside b e = (view_inside s k (view_at s b) (sym e)).0
 
     -- ---- By the view of a block and its description
 
-    pub no_block : {x : Error} → failed x ≡ view_of s k → failed x ≡ array_of s k
+    pub no_block : {x : Error} → Err x ≡ view_of s k → Err x ≡ array_of s k
     unfolding array_of
     no_block e = rw (← e)
 
-    module _ (v : View) (e : ok v ≡ view_of s k) where
-      pub no_description : {x : Error} → failed x ≡ description_in v → failed x ≡ array_of s k
+    module _ (v : View) (e : Ok v ≡ view_of s k) where
+      pub no_description : {x : Error} → Err x ≡ description_in v → Err x ≡ array_of s k
       unfolding array_of
       no_description f = rw (← e, ← f)
 
-      module _ {d : Description} (f : ok d ≡ description_in v) where
-        pub array_is : ok (record { description = d; bytes = data_of s v }) ≡ array_of s k
+      module _ {d : Description} (f : Ok d ≡ description_in v) where
+        pub array_is : Ok (record { description = d; bytes = data_of s v }) ≡ array_of s k
         unfolding array_of
         array_is = rw (← e, ← f)
 
@@ -88,17 +89,17 @@ module _ (s : List ℕ) where
 
     -- ---- By its array
 
-    module _ {x : Error} (e : failed x ≡ array_of s k) where
-      pub no_array : (asked : ℕ) → failed x ≡ array_in s k asked
+    module _ {x : Error} (e : Err x ≡ array_of s k) where
+      pub no_array : (asked : ℕ) → Err x ≡ array_in s k asked
       unfolding array_in
       no_array asked = rw (← e)
 
-      pub no_pixel : (i1 i2 i3 : ℕ) → failed x ≡ pixel_in s k i1 i2 i3
+      pub no_pixel : (i1 i2 i3 : ℕ) → Err x ≡ pixel_in s k i1 i2 i3
       unfolding pixel_in
       no_pixel i1 i2 i3 = rw (← e)
 
     -- The code holds the bytes of the data as l.
-    module _ {a : Array} (e : ok a ≡ array_of s k) {l : List ℕ} (g : l ≡ a.bytes) where
+    module _ {a : Array} (e : Ok a ≡ array_of s k) {l : List ℕ} (g : l ≡ a.bytes) where
       pub array_by : (asked : ℕ) → delivered_in a.description l asked ≡ array_in s k asked
       unfolding array_in delivered_in
       array_by asked = rw (← e, g)
@@ -109,21 +110,21 @@ module _ (s : List ℕ) where
 
     -- ---- What is known of an array that is answered
 
-    pub array_seen : (a : Array) → array_of s k ≡ ok a
+    pub array_seen : (a : Array) → array_of s k ≡ Ok a
         → ValidArray a.description (length a.bytes) × (Octets s → Octets a.bytes)
     unfolding array_of
     array_seen a e =
         let p = step_ok (view_of s k) _ a e in
         let v = p.0 in
-        let q = step_ok (description_in v) (λ (d : Description). ok (record { description = d; bytes = data_of s v })) a p.2 in
+        let q = step_ok (description_in v) (λ (d : Description). Ok (record { description = d; bytes = data_of s v })) a p.2 in
         subst (λ (x : Array). ValidArray x.description (length x.bytes) × (Octets s → Octets x.bytes)) (same_ok q.2)
         (array_valid v (sym p.1) (sym q.1) refl, octets_part (v.row.start + v.row.header) v.row.size s)
 
     -- and of the bytes that are written of it.
-    pub array_written : (asked : ℕ) (a : Array) (w : List ℕ) → array_of s k ≡ ok a → array_in s k asked ≡ ok w
+    pub array_written : (asked : ℕ) (a : Array) (w : List ℕ) → array_of s k ≡ Ok a → array_in s k asked ≡ Ok w
         → delivered a.description asked a.bytes ≡ w
     unfolding array_in
     array_written asked a w e f =
         let d = delivered a.description asked a.bytes in
-        let p = check_ok (require (is_order asked) 24 0) (ok d) w (rw e at f) in
+        let p = check_ok (require (is_order asked) 24 0) (Ok d) w (rw e at f) in
         same_ok p.2

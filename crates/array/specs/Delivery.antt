@@ -1,7 +1,7 @@
 -- The array delivered, and one pixel of it.
-use Rattle.std.specs.Prelude.{Bool, ◌&&◌, List, [], ◌∷◌, ℕ, ◌+◌, ◌*◌, leb, ltb}
+use Rattle.std.specs.Prelude.{Bool, ◌&&◌, List, [], ◌∷◌, ℕ, ◌+◌, ◌*◌, leb, ltb, Ok}
+use Rattle.scan.specs.Outcome.{Outcome, require, ◌>>=◌, ◌>>◌}
 use Rattle.scan.specs.Byte.{bytes_at}
-use Rattle.scan.specs.Outcome.{Outcome, ok, require, ◌>>=◌, ◌>>◌}
 use Rattle.keyword.specs.Keyword.{View, view_of}
 use Rattle.raster.specs.Bytes.{joined}
 use Rattle.raster.specs.Element.{element_bits, element_bytes}
@@ -43,7 +43,7 @@ unfoldable pub array_of : List ℕ → ℕ → Outcome Array
 array_of s block = do
   b ← view_of s block
   d ← description_in b
-  ok (record { description = d; bytes = data_of s b })
+  Ok (record { description = d; bytes = data_of s b })
 
 -- The code of a byte order.
 unfoldable pub is_order : ℕ → Bool
@@ -54,7 +54,7 @@ unfoldable pub array_in : List ℕ → ℕ → ℕ → Outcome (List ℕ)
 array_in s block asked = do
   a ← array_of s block
   require (is_order asked) 24 0
-  ok (delivered a.description asked a.bytes)
+  Ok (delivered a.description asked a.bytes)
 
 -- "Its call takes three indices, those past N being 0 (else 23)": Dims past N are 1.
 unfoldable pub is_index : Description → ℕ → ℕ → ℕ → Bool
@@ -71,4 +71,4 @@ unfoldable pub pixel_in : List ℕ → ℕ → ℕ → ℕ → ℕ → Outcome P
 pixel_in s block i1 i2 i3 = do
   a ← array_of s block
   require (is_index a.description i1 i2 i3) 23 0
-  ok (pixel_at a.description a.bytes i1 i2 i3)
+  Ok (pixel_at a.description a.bytes i1 i2 i3)

@@ -12,13 +12,11 @@ use raster::stride::steps_of;
 use raster::types::width_of;
 
 // Whether a number is the code of a byte order.
+#[tactic(auto, unfolding(crate::specs::Delivery::is_order))]
 pub fn is_order(asked: u8) -> bool
     ensures { result ≡ is_order asked }
 {
-    if asked < 1 {
-        return false;
-    }
-    asked <= 2
+    matches!(asked, 1 | 2)
 }
 
 // How many bytes delivery writes.
@@ -35,19 +33,18 @@ pub fn deliver_array(src: &[u8], d: Description, asked: u8, out: &mut [u8])
     requires d_in_bounds { product (array_dims d) * (array_type d).width ≤ length out.old }
     ensures { out.new ≡ over (delivered d asked src.now) out.old }
 {
-    let dim1 = d.dim1;
-    if dim1 == 0 {
+    if d.dim1 == 0 {
         return;
     }
-    let w = width_of(d.datatype);
-    let t = steps_of(w, d.configuration, d.dim1, d.dim2, d.dim3);
+    let width = width_of(d.datatype);
+    let steps = steps_of(width, d.configuration, d.dim1, d.dim2, d.dim3);
     deliver(
         src,
         d.datatype,
         d.byteorder,
         d.offset,
         asked,
-        t,
+        steps,
         d.dim1,
         d.dim2,
         d.dim3,

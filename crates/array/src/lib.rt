@@ -4,13 +4,3 @@
 pub mod deliver;
 pub mod pixel;
 pub mod read;
-
-use raster::Pixel;
-use scan::Error;
-
-// The answer of reading one pixel.
-#[derive(Clone, Copy)]
-pub enum Sampled {
-    Value(Pixel),
-    Failed(Error),
-}

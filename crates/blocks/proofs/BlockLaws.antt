@@ -1,10 +1,11 @@
 -- One block: `block_at` answers the block of the grammar if there is one, and else each error exactly in its case.
+use Rattle.std.specs.Prelude.{Ok, Err}
+use Rattle.scan.specs.Outcome.{Outcome}
 use mathlib.Core.Path.{◌≡◌, sym, ap, subst, ◌∙◌}
 use mathlib.Core.Bool.{Bool}
 use mathlib.Core.List.{List}
 use Prim.Native.Nat.{ℕ}
 use lib.ListN.{length}
-use Rattle.scan.specs.Outcome.{Outcome, ok, failed}
 use Rattle.scan.specs.declared.Error.{Error}
 use Rattle.scan.proofs.Cases.{by_option, by_outcome, none_some}
 use Rattle.header.specs.Entries.{entries}
@@ -41,15 +42,15 @@ pub record BlockRead (s : List ℕ) (given : Rules) (b : Bool) (end : ℕ) (a : 
 
 -- What an answer says.
 abbrev pub BlockSays : List ℕ → Rules → Bool → ℕ → ℕ → Outcome Accepted → Type 0
-BlockSays s given b end at (ok a) = BlockRead s given b end a
-BlockSays s given b end at (failed e) = BlockError s (RulesAre given b) at e
+BlockSays s given b end at (Ok a) = BlockRead s given b end a
+BlockSays s given b end at (Err e) = BlockError s (RulesAre given b) at e
 
 -- The steps that a header passes.
 module _ {s : List ℕ} {at : ℕ} {h : Header} {ts : List Statement} {es : List Entry} (k : HasHeader s at h ts es) where
-  headed : header_at s at ≡ ok h
+  headed : header_at s at ≡ Ok h
   headed = header_complete k.header
 
-  parsed : statements_of s at h ≡ ok ts
+  parsed : statements_of s at h ≡ Ok ts
   parsed = statements_complete s at h k.parse
 
   said : entries (body_of s h) ts ≡ es
@@ -58,7 +59,7 @@ module _ {s : List ℕ} {at : ℕ} {h : Header} {ts : List Statement} {es : List
 -- A block that is judged at its start.
 complete_at : (s : List ℕ) (given : Rules) → Asking given → {b : Bool} {end : ℕ} {r : Rules} {row : Row} {next : ℕ}
     → (y : SpacedBlock s r end row next) → Rank s given b end row.start → RulesAre given b y.block.entries r
-    → block_at s (coded given) b row.start ≡ ok (record { row = row; next = next; rules = coded r })
+    → block_at s (coded given) b row.start ≡ Ok (record { row = row; next = next; rules = coded r })
 unfolding block_at
 complete_at s given asking {b} {r = r} y rank d =
     let x = y.block in
@@ -85,7 +86,7 @@ module _ (s : List ℕ) (given : Rules) (asking : Asking given) {b : Bool} {end 
   keys-says : {h : Header} {ts : List Statement} {es : List Entry} (k : HasHeader s at h ts es) (r : Rules) (d : RulesAre given b es r)
       (p : Place s r b end at h) → (o : Outcome Accepted)
       → JudgedSays r (rules_asking given b _ asking d) p.rank (length s) h.length (keys_distinct k) o → BlockSays s given b end at o
-  keys-says {h} {ts} {es} k r d p (ok a) j = record {
+  keys-says {h} {ts} {es} k r d p (Ok a) j = record {
     rules = r;
     coded_are = sym j.same_rules;
     block = record {
@@ -105,7 +106,7 @@ module _ (s : List ℕ) (given : Rules) (asking : Asking given) {b : Bool} {end 
     };
     from = rules_from r k p d;
   }
-  keys-says k r d p (failed e) j = in-keys k d j
+  keys-says k r d p (Err e) j = in-keys k d j
 
   pub block-says : BlockSays s given b end at (block_at s (coded given) b at)
   unfolding block_at
@@ -152,14 +153,14 @@ module _ (s : List ℕ) (given : Rules) (asking : Asking given) {b : Bool} {end 
       go (first (at_zero n p)) y d = sym (y.gap.end_to_end (edf_declares d ((heads_proves (heads_file y) n).0 p)))
 
   pub block-complete : {r : Rules} {row : Row} {next : ℕ} → SpacedBlock s r end row next → RulesFrom s given b r
-      → block_at s (coded given) b at ≡ ok (record { row = row; next = next; rules = coded r })
+      → block_at s (coded given) b at ≡ Ok (record { row = row; next = next; rules = coded r })
   block-complete {r} {row} {next} y f =
       let d = rules_of_block y f in
       let q = block-starts y d in
-      subst (λ (i : ℕ). block_at s (coded given) b i ≡ ok (record { row = row; next = next; rules = coded r })) q
+      subst (λ (i : ℕ). block_at s (coded given) b i ≡ Ok (record { row = row; next = next; rules = coded r })) q
       (complete_at s given asking y (subst (λ (i : ℕ). Rank s given b end i) (sym q) rank) d)
 
-  pub block-error-complete : {e : Error} → BlockError s (RulesAre given b) at e → block_at s (coded given) b at ≡ failed e
+  pub block-error-complete : {e : Error} → BlockError s (RulesAre given b) at e → block_at s (coded given) b at ≡ Err e
   unfolding block_at
   block-error-complete (in_frame q) = rw (header_error_complete s at q)
   block-error-complete (in-statements {h = h} i q) = rw (header_complete i, statements_error_complete s at h q)

@@ -1,8 +1,8 @@
 -- The rules that a block is judged by.
+use Rattle.std.specs.Prelude.{Some}
 use mathlib.Core.Path.{◌≡◌, refl, sym, ap}
 use mathlib.Core.Bool.{Bool, true, false}
 use mathlib.Core.List.{List}
-use mathlib.Core.Option.{some}
 use Prim.Native.Nat.{ℕ}
 use Rattle.header.specs.Entry.{Entry}
 use Rattle.blocks.specs.Grammar.{Rules, Declares, FirstHeader}
@@ -23,7 +23,7 @@ pub record RulesRead (given : Rules) (b : Bool) (es : List Entry) (r : FileRules
   pub are : RulesAre given b es rules
   pub coded_are : coded rules ≡ r
 
-pub rules_for_sound : (given : Rules) (b : Bool) {es : List Entry} {r : FileRules} → DistinctKeys es → rules_for (coded given) b es ≡ some r
+pub rules_for_sound : (given : Rules) (b : Bool) {es : List Entry} {r : FileRules} → DistinctKeys es → rules_for (coded given) b es ≡ Some r
     → RulesRead given b es r
 rules_for_sound given true d e =
     let x = rules-sound d e in
@@ -31,9 +31,9 @@ rules_for_sound given true d e =
 rules_for_sound given false d e = record { rules = given; are = refl; coded_are = cc }
 
 pub rules_for_complete : (given : Rules) (b : Bool) {es : List Entry} (r : Rules) → DistinctKeys es → RulesAre given b es r
-    → rules_for (coded given) b es ≡ some (coded r)
+    → rules_for (coded given) b es ≡ Some (coded r)
 rules_for_complete given true r d x = rules-complete d x
-rules_for_complete given false r d e = ap (λ (x : Rules). some (coded x)) (sym e)
+rules_for_complete given false r d e = ap (λ (x : Rules). Some (coded x)) (sym e)
 
 pub rules_asking : (given : Rules) (b : Bool) (es : List Entry) {r : Rules} → Asking given → RulesAre given b es r → Asking r
 rules_asking given true es k d = declares_asking d

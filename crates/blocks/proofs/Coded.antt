@@ -1,9 +1,9 @@
 -- The rules of a file as the code holds them: a number for the kind, and 0 for the data blocks asked for where there is no general
 -- header.
+use Rattle.std.specs.Prelude.{Option, None, Some}
 use mathlib.Core.Path.{◌≡◌, refl, ap}
 use mathlib.Core.Logic.{◌≢◌}
 use mathlib.Core.List.{List}
-use mathlib.Core.Option.{Option, none, some}
 use Prim.Native.Nat.{ℕ}
 use native.Mathlib.Omega.{arith}
 use Rattle.scan.proofs.Finds.{missing, finds_by}
@@ -30,15 +30,15 @@ by_kind kind_1 f g = f refl
 by_kind kind_2 f g = g refl
 
 abbrev pub asked_of : Option ℕ → ℕ
-asked_of none = 0
-asked_of (some n) = n
+asked_of None = 0
+asked_of (Some n) = n
 
 abbrev pub coded : Rules → FileRules
 coded r = record { kind = kind_number r.kind; boundary = r.boundary; expected = asked_of r.general }
 
 -- A general header asks for some data blocks: no count is taken for none.
 pub record Asking (r : Rules) : Type 0 where
-  pub some_asked : (n : ℕ) → r.general ≡ some n → n ≢ 0
+  pub some_asked : (n : ℕ) → r.general ≡ Some n → n ≢ 0
 
 -- ---- The keys that are read in a file of a kind
 

@@ -1,4 +1,5 @@
 -- `opened` answers what there is: the partition of a file that has one, and the error that is due of one that has none.
+use Rattle.std.specs.Prelude.{Ok, Err}
 use mathlib.Core.Path.{◌≡◌, refl, ◌∙◌}
 use mathlib.Core.Bool.{true, false}
 use mathlib.Core.Logic.{◌≢◌}
@@ -9,7 +10,6 @@ use borrow.Author.Tests.{ne_eqb}
 use lib.Dec.{eqb}
 use lib.ListN.{length, length-append}
 use Rattle.scan.specs.Chain.{Chain}
-use Rattle.scan.specs.Outcome.{ok, failed}
 use Rattle.scan.specs.declared.Error.{Error}
 use Rattle.scan.proofs.Chains.{chain_end}
 use Rattle.scan.proofs.Decides.{passes, rejects}
@@ -89,7 +89,7 @@ module _ (s : List ℕ) where
   at_end : {r : Rules} {rows : List Row} {end : ℕ} → Passed s r rows end → ended (length rows) (length s) (length s) ≡ true
   at_end {rows = rows} p = passes (ended_decides (length rows) (length s) (length s)) ((λ z. omega (arith, p.not_empty)), refl)
 
-  pub opened_complete : {rows : List Row} → Partition s rows → opened s ≡ ok rows
+  pub opened_complete : {rows : List Row} → Partition s rows → opened s ≡ Ok rows
   opened_complete {rows} c =
       let t = chain_end (SpacedBlock s c.rules) (λ at. Gap s c.rules.kind at (length s)) 0 rows c.blocks in
       let p : Passed s c.rules rows t.0 = record {
@@ -114,7 +114,7 @@ module _ (s : List ℕ) where
     after : {at : ℕ} → NextAt s r.kind end at → start_after s (length rows) (kind_number r.kind) end ≡ at
     after x = after_some rows p.not_empty (passed_inside p) x
 
-  pub error_complete : {e : Error} → FileError s e → opened s ≡ failed e
+  pub error_complete : {e : Error} → FileError s e → opened s ≡ Err e
   unfolding opened
   error_complete (first_block {at = at} x q) =
       step_failed 256 s [] 0 (coded no_rules) (after_none s 1 ∙ first_start_lem x) (rejects (ended_decides 0 at (length s)) (λ h. h.0 refl)) (λ z. omega arith)
@@ -124,7 +124,7 @@ module _ (s : List ℕ) where
       (rw (not_first s p) (block-error-complete s r (passed_asking p) (later (passed_past p) x) q))
   error_complete (identity-twice {r = r} {rows = rows} {end = end} {next = next} {row = row} p few b q) =
       let x = spaced_next b in
-      let block : block_at s (coded r) (eqb (length rows) 0) row.start ≡ ok (record { row = row; next = next; rules = coded r }) =
+      let block : block_at s (coded r) (eqb (length rows) 0) row.start ≡ Ok (record { row = row; next = next; rules = coded r }) =
       rw (not_first s p) (block-complete s r (passed_asking p) (later (passed_past p) x) b refl) in
       stands p ∙ step_twice (256 - length rows) s rows end (coded r) (after p x) (not_ended (length rows) row.start (start_open b)) (λ z. omega arith)
       block (passes (repeats_decides rows row (passed_named p) (block_named b.block)) q)

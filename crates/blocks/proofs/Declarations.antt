@@ -1,9 +1,9 @@
 -- The rules that the first header gives the file: `rules_of` against `Declares`.
+use Rattle.std.specs.Prelude.{Some}
 use mathlib.Core.Path.{◌≡◌, refl, sym, ap, ◌∙◌}
 use mathlib.Core.Bool.{true, false}
 use mathlib.Core.Logic.{◌≢◌}
 use mathlib.Core.List.{List, []}
-use mathlib.Core.Option.{some}
 use Prim.Native.Nat.{ℕ}
 use native.Mathlib.Omega.{arith}
 use lib.ListN.{length}
@@ -53,7 +53,7 @@ pub record Declared (es : List Entry) (r : FileRules) : Type 0 where
 module _ {es : List Entry} (distinct : DistinctKeys es) where
   -- ---- A general header
 
-  general_sound : {r : FileRules} → (first es).key ≡ VersionKey → general_rules es ≡ some r → Declared es r
+  general_sound : {r : FileRules} → (first es).key ≡ VersionKey → general_rules es ≡ Some r → Declared es r
   unfolding general_rules
   general_sound {r} k e =
       by_test (is_version (first es).value)
@@ -67,10 +67,10 @@ module _ {es : List Entry} (distinct : DistinctKeys es) where
       (λ v. absurd (none_some (rw v at e)))
     where
       made : is_version (first es).value ≡ true → same (second es).key DataBlocksKey ≡ true
-          → (n : ℕ) → asked_for (second es).value ≡ some n → (m : ℕ) → number_or 512 1 (value_in BoundaryKey (counting es)) ≡ some m
-          → some (rules_with 2 m n) ≡ some r → Declared es r
+          → (n : ℕ) → asked_for (second es).value ≡ Some n → (m : ℕ) → number_or 512 1 (value_in BoundaryKey (counting es)) ≡ Some m
+          → Some (rules_with 2 m n) ≡ Some r → Declared es r
       made v d n a m b q = record {
-        rules = record { kind = kind_2; boundary = m; general = some n };
+        rules = record { kind = kind_2; boundary = m; general = Some n };
         declares = general-first (record {
           version = (first es).value;
           version_key = has_key es 0 (not_empty (λ z. omega arith)) k;
@@ -86,7 +86,7 @@ module _ {es : List Entry} (distinct : DistinctKeys es) where
         are = cc;
       }
 
-  general-complete : {r : Rules} → GeneralHeader es r → general_rules es ≡ some (coded r)
+  general-complete : {r : Rules} → GeneralHeader es r → general_rules es ≡ Some (coded r)
   unfolding general_rules
   general-complete {r} g =
       rw (
@@ -98,11 +98,11 @@ module _ {es : List Entry} (distinct : DistinctKeys es) where
         asked_complete g.asks,
         number-complete (counting_reads distinct BoundaryKey) g.boundary,
       )
-      (ap some (λ i. record { kind = kind_number (sym g.kind i); boundary = r.boundary; expected = asked_of (sym g.general i) }))
+      (ap Some (λ i. record { kind = kind_number (sym g.kind i); boundary = r.boundary; expected = asked_of (sym g.general i) }))
 
   -- ---- Any first header
 
-  pub rules-sound : {r : FileRules} → rules_of es ≡ some r → Declared es r
+  pub rules-sound : {r : FileRules} → rules_of es ≡ Some r → Declared es r
   unfolding rules_of
   rules-sound {r} e =
       by_test (is_edf_key (first es).key)
@@ -112,20 +112,20 @@ module _ {es : List Entry} (distinct : DistinctKeys es) where
       (λ b. record {
         rules = plain_rules kind_2;
         declares = data-first (has_key es 0 (not_empty (λ z. omega arith)) (decided (same_decides _ _) b)) refl;
-        are = let q : some (rules_with 2 512 0) ≡ some r = rw (k, v, b) at e in cc;
+        are = let q : Some (rules_with 2 512 0) ≡ Some r = rw (k, v, b) at e in cc;
       })
       (λ b. absurd (none_some (rw (k, v, b) at e)))))
       (λ k. record {
         rules = plain_rules kind_1;
         declares = plain (refuted (starts_decides es) k) refl;
-        are = let q : some (rules_with 1 1 0) ≡ some r = rw k at e in cc;
+        are = let q : Some (rules_with 1 1 0) ≡ Some r = rw k at e in cc;
       })
 
-  pub rules-complete : {r : Rules} → Declares es r → rules_of es ≡ some (coded r)
+  pub rules-complete : {r : Rules} → Declares es r → rules_of es ≡ Some (coded r)
   unfolding rules_of
-  rules-complete (plain n e) = rw (rejects (starts_decides es) n) (ap (λ (x : Rules). some (coded x)) (sym e))
+  rules-complete (plain n e) = rw (rejects (starts_decides es) n) (ap (λ (x : Rules). Some (coded x)) (sym e))
   rules-complete (data-first k e) =
-      rw (key_at k, id_edf, id_not_version, same_itself BlockIDKey) (ap (λ (x : Rules). some (coded x)) (sym e))
+      rw (key_at k, id_edf, id_not_version, same_itself BlockIDKey) (ap (λ (x : Rules). Some (coded x)) (sym e))
   rules-complete (general-first g) = rw (key_at g.version_key, version_edf, same_itself VersionKey) (general-complete g)
 
 -- A general header asks for some data blocks.
@@ -134,9 +134,9 @@ declares_asking (plain k e) = record { some_asked = λ n g. absurd (none_some (s
 declares_asking (data-first k e) = record { some_asked = λ n g. absurd (none_some (sym (ap (λ (x : Rules). x.general) e) ∙ g)) }
 declares_asking {r = r} (general-first g) = record { some_asked = asked }
   where
-    asked : (n : ℕ) → r.general ≡ some n → n ≢ 0
+    asked : (n : ℕ) → r.general ≡ Some n → n ≢ 0
     asked n h z =
-        let same : ◌≡◌ (some g.count) (some n) = sym g.general ∙ h in
+        let same : ◌≡◌ (Some g.count) (Some n) = sym g.general ∙ h in
         let e : g.count ≡ n = cc in
         omega (arith, asked_positive g.asks)
 

@@ -1,10 +1,11 @@
 -- Whitespace between blocks (02, No. 4), both sides of each rule: one table under one statement, proved by computing.
+use Rattle.std.specs.Prelude.{Ok}
+use Rattle.scan.specs.Outcome.{Outcome, refused}
 use mathlib.Core.Path.{◌≡◌, refl}
 use mathlib.Core.List.{List, [], ◌∷◌, ◌++◌}
 use Prim.Native.Nat.{ℕ}
 use lib.IntN.{ℤ, pos}
 use Rattle.scan.specs.Byte.{ascii, same}
-use Rattle.scan.specs.Outcome.{Outcome, ok, refused}
 use Rattle.scan.specs.Search.{first_from, first_with}
 use Rattle.text.specs.Whitespace.{whitespace, visible, visible_from}
 use Rattle.text.specs.Fold.{fold, fold_table}
@@ -36,15 +37,15 @@ Each (example s answer ∷ xs) = (opened s ≡ answer) × Each xs
 unfoldable pub table : List Example
 table =
     -- Before the first header, after the last, between blocks: in no row.
-    example (ascii " {}\n ") (ok (row 1 3 0 1 (pos 0) 0 (pos 0) ∷ []))
-    ∷ example (ascii "\n{}\n") (ok (row 1 3 0 1 (pos 0) 0 (pos 0) ∷ []))
-    ∷ example (ascii "\r{}\n") (ok (row 1 3 0 1 (pos 0) 0 (pos 0) ∷ []))
-    ∷ example (ascii "{}\n\r\n\t {}\n") (ok (row 0 3 0 1 (pos 0) 0 (pos 0) ∷ row 7 3 0 1 (pos 0) 0 (pos 0) ∷ []))
-    ∷ example (ascii "{}\n" ++ ((11 ∷ 12 ∷ []) ++ ascii "{}\n")) (ok (row 0 3 0 1 (pos 0) 0 (pos 0) ∷ row 5 3 0 1 (pos 0) 0 (pos 0) ∷ []))
+    example (ascii " {}\n ") (Ok (row 1 3 0 1 (pos 0) 0 (pos 0) ∷ []))
+    ∷ example (ascii "\n{}\n") (Ok (row 1 3 0 1 (pos 0) 0 (pos 0) ∷ []))
+    ∷ example (ascii "\r{}\n") (Ok (row 1 3 0 1 (pos 0) 0 (pos 0) ∷ []))
+    ∷ example (ascii "{}\n\r\n\t {}\n") (Ok (row 0 3 0 1 (pos 0) 0 (pos 0) ∷ row 7 3 0 1 (pos 0) 0 (pos 0) ∷ []))
+    ∷ example (ascii "{}\n" ++ ((11 ∷ 12 ∷ []) ++ ascii "{}\n")) (Ok (row 0 3 0 1 (pos 0) 0 (pos 0) ∷ row 5 3 0 1 (pos 0) 0 (pos 0) ∷ []))
     -- The data are not whitespace in between, even if they are blank.
-    ∷ example (ascii "{Size=2;}\n   {}\n") (ok (row 0 10 2 1 (pos 0) 0 (pos 0) ∷ row 13 3 0 1 (pos 0) 0 (pos 0) ∷ []))
+    ∷ example (ascii "{Size=2;}\n   {}\n") (Ok (row 0 10 2 1 (pos 0) 0 (pos 0) ∷ row 13 3 0 1 (pos 0) 0 (pos 0) ∷ []))
     ∷ example (ascii "{Size=2;}\n ") (refused 12 0)
-    ∷ example (ascii "{Size=2;}\n{}{}\n") (ok (row 0 10 2 1 (pos 0) 0 (pos 0) ∷ row 12 3 0 1 (pos 0) 0 (pos 0) ∷ []))
+    ∷ example (ascii "{Size=2;}\n{}{}\n") (Ok (row 0 10 2 1 (pos 0) 0 (pos 0) ∷ row 12 3 0 1 (pos 0) 0 (pos 0) ∷ []))
     -- 3: the first byte that is no whitespace, or the length.
     ∷ example (ascii "") (refused 3 0)
     ∷ example (ascii " \n ") (refused 3 3)
@@ -70,14 +71,14 @@ table =
     ∷ example (ascii "\r\n{EDF_x=;}\n") (refused 9 0)
     ∷ example (ascii "\n{EDF_x=;edf_X=;}\n") (refused 8 0)
     ∷ example (ascii "\r\n{EDF_DataBlockID=1.Image.Psd;}\n") (refused 11 0)
-    ∷ example (ascii "\n{EDF_DataFormatVersion=2.42;EDF_DataBlocks=1;EDF_BlockBoundary=1;}\n{EDF_DataBlockID=1.Image.Psd;}\n") (ok (row 0 68 0 0 (pos 0) 0 (pos 0) ∷ row 68 31 0 1 (pos 1) 1 (pos 1) ∷ []))
+    ∷ example (ascii "\n{EDF_DataFormatVersion=2.42;EDF_DataBlocks=1;EDF_BlockBoundary=1;}\n{EDF_DataBlockID=1.Image.Psd;}\n") (Ok (row 0 68 0 0 (pos 0) 0 (pos 0) ∷ row 68 31 0 1 (pos 1) 1 (pos 1) ∷ []))
     -- No whitespace between or after blocks of kind 2: start patterns alone.
-    ∷ example (ascii "{EDF_DataFormatVersion=2.42;EDF_DataBlocks=1;EDF_BlockBoundary=1;}\n\r\n{EDF_DataBlockID=1.Image.Psd;}\n") (ok (row 0 67 0 0 (pos 0) 0 (pos 0) ∷ row 67 33 0 1 (pos 1) 1 (pos 1) ∷ []))
+    ∷ example (ascii "{EDF_DataFormatVersion=2.42;EDF_DataBlocks=1;EDF_BlockBoundary=1;}\n\r\n{EDF_DataBlockID=1.Image.Psd;}\n") (Ok (row 0 67 0 0 (pos 0) 0 (pos 0) ∷ row 67 33 0 1 (pos 1) 1 (pos 1) ∷ []))
     ∷ example (ascii "{EDF_DataFormatVersion=2.42;EDF_DataBlocks=1;EDF_BlockBoundary=1;}\n  {EDF_DataBlockID=1.Image.Psd;}\n") (refused 3 67)
     ∷ example (ascii "{EDF_DataFormatVersion=2.42;EDF_DataBlocks=1;EDF_BlockBoundary=1;}\n{EDF_DataBlockID=1.Image.Psd;}\n\n") (refused 3 98)
     -- No length is wrong in kind 1, and no EDF_ key counts.
-    ∷ example (ascii "{a=1;EDF_HeaderSize=3;}\n") (ok (row 0 24 0 1 (pos 0) 0 (pos 0) ∷ []))
-    ∷ example (ascii "{}\n {EDF_DataBlockID=1.Image.Psd;}\n") (ok (row 0 3 0 1 (pos 0) 0 (pos 0) ∷ row 4 31 0 1 (pos 0) 0 (pos 0) ∷ []))
+    ∷ example (ascii "{a=1;EDF_HeaderSize=3;}\n") (Ok (row 0 24 0 1 (pos 0) 0 (pos 0) ∷ []))
+    ∷ example (ascii "{}\n {EDF_DataBlockID=1.Image.Psd;}\n") (Ok (row 0 3 0 1 (pos 0) 0 (pos 0) ∷ row 4 31 0 1 (pos 0) 0 (pos 0) ∷ []))
     ∷ []
 
 pub examples_hold : Each table

@@ -1,4 +1,5 @@
 -- Whitespace between blocks: where the next block is looked for, and the brace of a header behind whitespace.
+use Rattle.std.specs.Prelude.{Option, ℕ, Some, None}
 use mathlib.Core.Path.{◌≡◌, refl, sym, ◌∙◌}
 use mathlib.Core.Bool.{true, false}
 use mathlib.Core.List.{List}
@@ -10,8 +11,6 @@ use borrow.Author.Tests.{not-true, not-false}
 use lib.ListN.{length, get_or-eq_default}
 use Rattle.scan.specs.Byte.{byte}
 use Rattle.scan.specs.Search.{first_from}
-use Rattle.scan.specs.declared.Found.{Found}
-use Rattle.scan.specs.declared.Found.TheVariants.{At, Nothing}
 use Rattle.scan.proofs.Cases.{by_order, clash}
 use Rattle.scan.proofs.Searches.{FoundSays, search_says}
 use Rattle.text.specs.Whitespace.{whitespace, visible, found_or, visible_from}
@@ -55,12 +54,12 @@ module _ (s : List ℕ) where
       one : kind ≡ kind_1 → i ≡ j
       one k = by_order i j (λ le. by_order j i (λ ge. omega arith) (λ lt. absurd (before k a b lt))) (λ lt. absurd (before k b a lt))
 
-  found-next : {end : ℕ} → end ≤ length s → (f : Found) → FoundSays visible s end f → NextAt s kind_1 end (found_or (length s) f)
-  found-next h (At i) x = record {
+  found-next : {end : ℕ} → end ≤ length s → (f : Option ℕ) → FoundSays visible s end f → NextAt s kind_1 end (found_or (length s) f)
+  found-next h (Some i) x = record {
     gap = record { order = x.from; only_whitespace = λ k l u. unseen (byte s k) (x.before k l u); end_to_end = λ q. absurd (kinds_differ q) };
     visible = λ q. seen (byte s i) x.here;
   }
-  found-next h Nothing w = record {
+  found-next h None w = record {
     gap = record { order = h; only_whitespace = λ k l u. unseen (byte s k) (w k l u); end_to_end = λ q. absurd (kinds_differ q) };
     visible = λ q. end_visible (length s) (omega arith);
   }

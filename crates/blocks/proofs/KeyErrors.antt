@@ -1,15 +1,15 @@
 -- What the keys of one header decide: `judged` gives a row exactly if the grammar's rules on keys are kept, and each of errors 9 to
 -- 12 exactly in its case.
+use Rattle.std.specs.Prelude.{Option, Some, Ok, Err, is_none}
+use Rattle.scan.specs.Outcome.{Outcome}
 use mathlib.Core.Path.{◌≡◌, refl, sym, ap, ◌∙◌}
 use mathlib.Core.Bool.{Bool, true, false, false≢true}
 use mathlib.Core.List.{List}
-use mathlib.Core.Option.{Option, some}
 use Prim.Native.Nat.{ℕ, ◌+◌, ◌/◌, ◌%◌, ◌≤◌}
 use native.Mathlib.Nat.{mul-mod_left, div-add-mod'}
 use native.Mathlib.Omega.{arith}
 use borrow.Author.Tests.{le-leb, lt-leb, leb-true, leb-false}
 use lib.Dec.{eqb, leb}
-use Rattle.scan.specs.Outcome.{Outcome, ok, failed, is_none}
 use Rattle.scan.specs.declared.Error.{Error}
 use Rattle.scan.proofs.Cases.{by_test, by_option, none_some}
 use Rattle.scan.proofs.Decides.{Decides, holds, fails, decided, refuted, passes, rejects, decides_and, decides_by, eqb_decides}
@@ -88,11 +88,11 @@ module _ (r : Rules) (asking : Asking r) {b : Bool} {start : ℕ} (rank : IsFirs
     pub same_rules : a.rules ≡ coded r
 
   abbrev pub JudgedSays : Outcome Accepted → Type 0
-  JudgedSays (ok a) = IsAccepted a
-  JudgedSays (failed e) = KeyError r start end header es e
+  JudgedSays (Ok a) = IsAccepted a
+  JudgedSays (Err e) = KeyError r start end header es e
 
   -- The row that is read, once role and size are.
-  read : (role : Role) (size : ℕ) → role_of (coded r) b es ≡ some role → number_or 0 0 size_text ≡ some size
+  read : (role : Role) (size : ℕ) → role_of (coded r) b es ≡ Some role → number_or 0 0 size_text ≡ Some size
       → is_whole_or_absent (counted HeaderSizeKey) ≡ true → Readable r start es (row_with start header size role)
   read role size e f w = record {
     role = role_sound r asking rank es role e header size;
@@ -139,10 +139,10 @@ module _ (r : Rules) (asking : Asking r) {b : Bool} {start : ℕ} (rank : IsFirs
 
   -- The steps that a readable header passes.
   module _ {row : Row} (q : Readable r start es row) where
-    role_read : role_of (coded r) b es ≡ some (role_in row)
+    role_read : role_of (coded r) b es ≡ Some (role_in row)
     role_read = role_complete r asking rank es q.role
 
-    size_read : number_or 0 0 size_text ≡ some row.size
+    size_read : number_or 0 0 size_text ≡ Some row.size
     size_read = number-complete (size-reads distinct r.kind) q.size
 
     whole_read : is_whole_or_absent (counted HeaderSizeKey) ≡ true
@@ -150,14 +150,14 @@ module _ (r : Rules) (asking : Asking r) {b : Bool} {start : ℕ} (rank : IsFirs
 
   pub judged_complete : {row : Row} → KeepsRules r start es row → row.start ≡ start → row.header ≡ header → {next : ℕ}
       → next ≡ start + header + row.size → next ≤ end
-      → judged (coded r) b end start header es ≡ ok (record { row = row; next = next; rules = coded r })
+      → judged (coded r) b end start header es ≡ Ok (record { row = row; next = next; rules = coded r })
   unfolding judged
   judged_complete {row} k p q {next} n u =
       let read : Readable r start es row = record { role = k.role; size = k.size; header_size = length_whole k.header_size } in
       let kept : LengthKept r es header = record { multiple = rw q at k.multiple; header_size = rw q at k.header_size } in
       let room : leb (start + header + row.size) end ≡ true = le-leb _ _ (rw n at u) in
       rw (role_read read, size_read read, whole_read read, passes name_test k.no_file_name, passes length_test kept, room)
-      (λ i. ok (record {
+      (λ i. Ok (record {
         row = record {
           start = sym p i;
           header = sym q i;
@@ -171,7 +171,7 @@ module _ (r : Rules) (asking : Asking r) {b : Bool} {start : ℕ} (rank : IsFirs
         rules = coded r;
       }))
 
-  pub key_error_complete : {e : Error} → KeyError r start end header es e → judged (coded r) b end start header es ≡ failed e
+  pub key_error_complete : {e : Error} → KeyError r start end header es e → judged (coded r) b end start header es ≡ Err e
   unfolding judged
   key_error_complete (rule-broken n) =
       by_option (role_of (coded r) b es) (λ e. rw e)

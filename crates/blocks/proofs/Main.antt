@@ -1,13 +1,12 @@
 -- The main theorems about the grammar, stated. Their proofs are in the files beside this one, in `lexical` and in `header`.
+use Rattle.std.specs.Prelude.{Some, Ok, Err}
 use mathlib.Core.Path.{◌≡◌}
 use mathlib.Core.Logic.{◌↔◌}
 use mathlib.Core.List.{List, map, Memᴰ}
-use mathlib.Core.Option.{some}
 use Prim.Native.Nat.{ℕ, ◌+◌, ◌≤◌, ◌<◌}
 use lib.IntN.{ℤ}
 use lib.ListN.{length, take}
 use Rattle.scan.specs.Byte.{bytes_at}
-use Rattle.scan.specs.Outcome.{ok, failed}
 use Rattle.scan.specs.declared.Error.{Error}
 use Rattle.text.specs.Number.{whole_number}
 use Rattle.text.specs.Value.{trimmed, value_span, value_of}
@@ -51,7 +50,7 @@ use Rattle.blocks.proofs.ValueLaws.{reads_is}
 -- ---- The functions of the reader give the grammar's parts, and nothing else
 
 -- Whole numbers,
-pub whole_numbers : (l : List ℕ) {z : ℤ} → (whole_number l ≡ some z) ↔ IsWhole l z
+pub whole_numbers : (l : List ℕ) {z : ℤ} → (whole_number l ≡ Some z) ↔ IsWhole l z
 whole_numbers = whole_is
 
 -- values, and where they stand in the bytes between `=` and `;`,
@@ -70,10 +69,10 @@ pub counts : (es : List Entry) {n : ℕ} {e : Entry} → EntryAt (counting es) n
 counts = counting_is
 
 module _ {es : List Entry} (distinct : DistinctKeys es) (kind : Kind) {v : List ℕ} where
-  pub counts_in : (k : List ℕ) → (value_in k (counting_in (kind_number kind) es) ≡ some v) ↔ CountsIn kind es k v
+  pub counts_in : (k : List ℕ) → (value_in k (counting_in (kind_number kind) es) ≡ Some v) ↔ CountsIn kind es k v
   counts_in k = reads_is (kind_reads distinct kind k)
 
-  pub sizes : (size_value (kind_number kind) es ≡ some v) ↔ SizeIs kind es v
+  pub sizes : (size_value (kind_number kind) es ≡ Some v) ↔ SizeIs kind es v
   sizes = reads_is (size-reads distinct kind)
 
 module _ (s : List ℕ) where
@@ -102,11 +101,11 @@ module _ (s : List ℕ) where
   -- ---- Sound and complete
 
   -- Opening gives rows exactly if these are a partition of the file: its count of blocks, its rows, every field.
-  pub accepts : {rows : List Row} → (opened s ≡ ok rows) ↔ Partition s rows
+  pub accepts : {rows : List Row} → (opened s ≡ Ok rows) ↔ Partition s rows
   accepts = (Sound.opened-sound s, Complete.opened_complete s)
 
   -- So does the call, for a file of at most 1,073,741,824 bytes.
-  pub accepts_file : length s ≤ 1073741824 → {rows : List Row} → (opened_file s ≡ ok rows) ↔ Partition s rows
+  pub accepts_file : length s ≤ 1073741824 → {rows : List Row} → (opened_file s ≡ Ok rows) ↔ Partition s rows
   accepts_file = file_accepted s
 
   -- A file has 1 to 256 blocks.
@@ -114,11 +113,11 @@ module _ (s : List ℕ) where
   some_and_few c = (c.not_empty, c.few)
 
   -- A file that has no partition gets an error, with a code from 3 to 15.
-  pub refuses : ((rows : List Row) → Partition s rows → ⊥) → (e : Error) × (opened s ≡ failed e) × Bounded s e
+  pub refuses : ((rows : List Row) → Partition s rows → ⊥) → (e : Error) × (opened s ≡ Err e) × Bounded s e
   refuses = opened_error s
 
   -- Each code with its position is given exactly in its case: that of the first block that fails, as `FileError` states it.
-  pub errors : {e : Error} → (opened s ≡ failed e) ↔ FileError s e
+  pub errors : {e : Error} → (opened s ≡ Err e) ↔ FileError s e
   errors = (Sound.error-sound s, Complete.error_complete s)
 
   -- 11 "in kind 2 only": its first header starts with an EDF_ key.

@@ -1,9 +1,9 @@
 -- The role of a block, its kind and identity: `role_of` against `HasRole`.
+use Rattle.std.specs.Prelude.{None, Some}
 use mathlib.Core.Path.{◌≡◌, refl, sym, ap, subst, ◌∙◌}
 use mathlib.Core.Bool.{Bool, true, false, not, ◌&&◌, false≢true}
 use mathlib.Core.Logic.{◌≢◌, ◌⊎◌, inl, inr, ◌↔◌}
 use mathlib.Core.List.{List}
-use mathlib.Core.Option.{none, some}
 use Prim.Native.Nat.{ℕ}
 use native.Mathlib.Omega.{arith}
 use borrow.Author.Tests.{ne_eqb, eqb-true, not-false}
@@ -51,12 +51,12 @@ module _ {r : Rules} (asking : Asking r) (two : r.kind ≡ kind_2) where
   not_plain : {A : Type 0} → r.kind ≡ kind_1 → A
   not_plain one = absurd (kinds_differ (sym one ∙ two))
 
-  general_test : {b : Bool} {start n : ℕ} → IsFirst r.kind b start → r.general ≡ some n → start ≡ 0 → is_general b r ≡ true
+  general_test : {b : Bool} {start n : ℕ} → IsFirst r.kind b start → r.general ≡ Some n → start ≡ 0 → is_general b r ≡ true
   general_test {n = n} is-first g z = rw (g, ne_eqb n 0 (asking.some_asked n g))
   general_test (is_plain one) g z = not_plain one
   general_test (is_later m) g z = absurd (m z)
 
-  data_test : {b : Bool} {start : ℕ} → IsFirst r.kind b start → (r.general ≡ none) ⊎ (start ≢ 0) → is_general b r ≡ false
+  data_test : {b : Bool} {start : ℕ} → IsFirst r.kind b start → (r.general ≡ None) ⊎ (start ≢ 0) → is_general b r ≡ false
   data_test is-first (inl g) = rw g
   data_test is-first (inr n) = absurd (n refl)
   data_test (is_plain one) d = not_plain one
@@ -64,13 +64,13 @@ module _ {r : Rules} (asking : Asking r) (two : r.kind ≡ kind_2) where
 
   -- And back.
   tested_general : {b : Bool} {start : ℕ} → IsFirst r.kind b start → is_general b r ≡ true
-      → ((n : ℕ) × (r.general ≡ some n)) × (start ≡ 0)
+      → ((n : ℕ) × (r.general ≡ Some n)) × (start ≡ 0)
   tested_general is-first e =
       by_option r.general (λ g. absurd (false≢true (rw g at e))) (λ n g. ((n, g), refl))
   tested_general (is_plain one) e = not_plain one
   tested_general (is_later n) e = absurd (false≢true e)
 
-  tested_data : {b : Bool} {start : ℕ} → IsFirst r.kind b start → is_general b r ≡ false → (r.general ≡ none) ⊎ (start ≢ 0)
+  tested_data : {b : Bool} {start : ℕ} → IsFirst r.kind b start → is_general b r ≡ false → (r.general ≡ None) ⊎ (start ≢ 0)
   tested_data is-first e =
       by_option r.general (λ g. inl g)
       (λ n g. absurd (asking.some_asked n g (eqb-true n 0 (not-false (eqb n 0) (rw g at e)))))
@@ -78,16 +78,16 @@ module _ {r : Rules} (asking : Asking r) (two : r.kind ≡ kind_2) where
   tested_data (is_later n) e = inr n
 
 module _ (r : Rules) (asking : Asking r) {b : Bool} {start : ℕ} (rank : IsFirst r.kind b start) (es : List Entry) where
-  pub role_complete : {row : Row} → HasRole r start es row → role_of (coded r) b es ≡ some (role_in row)
+  pub role_complete : {row : Row} → HasRole r start es row → role_of (coded r) b es ≡ Some (role_in row)
   unfolding role_of
-  role_complete {row} (plain-block k a n) = rw k (ap some (unnamed_is row 1 a n))
-  role_complete {row} (general_block k g z a n) = rw (general_test asking k rank g z, k) (ap some (unnamed_is row 0 a n))
+  role_complete {row} (plain-block k a n) = rw k (ap Some (unnamed_is row 1 a n))
+  role_complete {row} (general_block k g z a n) = rw (general_test asking k rank g z, k) (ap Some (unnamed_is row 0 a n))
   role_complete {row} (data_block k d a e i) =
       rw (data_test asking k rank d, k, key_at e, same_itself BlockIDKey, value_at e, identity_complete i)
-      (ap some (λ j. record { kind = sym a j; identity = record { sequence = row.sequence; instance = row.instance; memory = row.memory } }))
+      (ap Some (λ j. record { kind = sym a j; identity = record { sequence = row.sequence; instance = row.instance; memory = row.memory } }))
 
   -- The row of a role, wherever its block stands.
-  pub role_sound : (role : Role) → role_of (coded r) b es ≡ some role → (header size : ℕ) → HasRole r start es (row_with start header size role)
+  pub role_sound : (role : Role) → role_of (coded r) b es ≡ Some role → (header size : ℕ) → HasRole r start es (row_with start header size role)
   unfolding role_of
   role_sound role e header size = go r.kind refl
     where
@@ -99,19 +99,19 @@ module _ (r : Rules) (asking : Asking r) {b : Bool} {start : ℕ} (rank : IsFirs
 
       go : (k : Kind) → r.kind ≡ k → Has role
       go kind_1 k =
-          let q : some (unnamed 1) ≡ some role = rw k at e in
+          let q : Some (unnamed 1) ≡ Some role = rw k at e in
           let p : unnamed 1 ≡ role = cc in
           subst Has p (plain-block k refl none_named)
       go kind_2 k =
           by_test (is_general b r)
-          (λ g. let q : some (unnamed 0) ≡ some role = rw (k, g) at e in
+          (λ g. let q : Some (unnamed 0) ≡ Some role = rw (k, g) at e in
           let p : unnamed 0 ≡ role = cc in
           let t = tested_general asking k rank g in
           subst Has p (general_block k t.0.1 t.1 refl none_named))
           (λ g. by_test (same (first es).key BlockIDKey)
           (λ d. by_option (identity_of (first es).value)
           (λ i. absurd (none_some (rw (k, g, d, i) at e)))
-          (λ i f. let q : some (record { kind = 1; identity = i }) ≡ some role = rw (k, g, d, f) at e in
+          (λ i f. let q : Some (record { kind = 1; identity = i }) ≡ Some role = rw (k, g, d, f) at e in
           let p : record { kind = 1; identity = i } ≡ role = cc in
           subst Has p
           (data_block k (tested_data asking k rank g) refl (has_key es 0 (not_empty (λ z. omega arith)) (decided (same_decides _ _) d))

@@ -1,16 +1,16 @@
 -- What `opened` answers: rows are a partition of the file, and an error is given in its case.
+use Rattle.std.specs.Prelude.{Option, None, Some, Ok, Err}
+use Rattle.scan.specs.Outcome.{Outcome}
 use mathlib.Core.Path.{◌≡◌, refl, sym, ap, ◌∙◌}
 use mathlib.Core.Bool.{true, false}
 use mathlib.Core.Logic.{◌≢◌, inr, ⊎_elim}
 use mathlib.Core.List.Memᴰ
 use mathlib.Core.List.{List, [], ◌∷◌, ◌++◌}
-use mathlib.Core.Option.{Option, none, some}
 use Prim.Native.Nat.{ℕ, zero, suc, ◌+◌, ◌≤◌, ◌<◌}
 use native.Mathlib.Omega.{arith}
 use borrow.Author.Tests.{ne_eqb, eqb-true, eqb-false}
 use lib.Dec.{eqb}
 use lib.ListN.{length, length-append}
-use Rattle.scan.specs.Outcome.{Outcome, ok, failed}
 use Rattle.scan.specs.declared.Error.{Error}
 use Rattle.scan.proofs.Cases.{by_test, by_outcome, none_some}
 use Rattle.scan.proofs.Chains.{chain_more, chain_length, chain_inside, chain_member, chain_stops}
@@ -38,9 +38,9 @@ pub count_decides : {r : Rules} → Asking r → (count : ℕ) → Decides (Coun
 unfolding count_matches
 count_decides {r} asking count = go r.general asking.some_asked
   where
-    go : (g : Option ℕ) → ((n : ℕ) → g ≡ some n → n ≢ 0) → Decides (CountIs g count) (count_matches (asked_of g) count)
-    go none asked = holds tt
-    go (some n) asked =
+    go : (g : Option ℕ) → ((n : ℕ) → g ≡ Some n → n ≢ 0) → Decides (CountIs g count) (count_matches (asked_of g) count)
+    go None asked = holds tt
+    go (Some n) asked =
         decides_by (λ d. ⊎_elim (λ z. absurd (asked n refl z)) (λ e. e) d) inr (decides_or (eqb_decides n 0) (eqb_decides count (suc n)))
 
 pub ended_decides : (count at end : ℕ) → Decides ((count ≢ 0) × (at ≡ end)) (ended count at end)
@@ -97,8 +97,8 @@ module _ {s : List ℕ} where
 -- ---- What an answer says
 
 abbrev pub OpenedSays : List ℕ → Outcome (List Row) → Type 0
-OpenedSays s (ok rows) = Partition s rows
-OpenedSays s (failed e) = FileError s e
+OpenedSays s (Ok rows) = Partition s rows
+OpenedSays s (Err e) = FileError s e
 
 module _ (s : List ℕ) where
   -- At the end of the file.
@@ -154,7 +154,7 @@ module _ (s : List ℕ) where
       let few : length rows < 256 = omega (arith, p.few, eqb-false (length rows) 256 f) in
       by_outcome (block_at s (coded r) (eqb (length rows) 0) (next p))
       (λ a b.
-      let k = next_says p (ok a) b in
+      let k = next_says p (Ok a) b in
       let block : SpacedBlock s r end a.row a.next = rw k.from at k.block in
       let same : a.rules ≡ coded r = sym k.coded_are ∙ ap coded k.from in
       let twice = repeats_decides rows a.row (passed_named p) (block_named block.block) in
@@ -164,7 +164,7 @@ module _ (s : List ℕ) where
       (from_says n r (rows ++ (a.row ∷ [])) a.next (passed_more p few block (refuted twice t))
       (omega (arith, length-append rows (a.row ∷ []))))))
       (λ x b. rw (step_failed n s rows end (coded r) at e (eqb-false _ _ f) b)
-      (later-block p few (next_at p) (not_at_end p e) (next_says p (failed x) b)))))
+      (later-block p few (next_at p) (not_at_end p e) (next_says p (Err x) b)))))
 
   -- Where the first block is looked for.
   pub after_none : (kind : ℕ) → start_after s 0 kind 0 ≡ first_start s
@@ -177,7 +177,7 @@ module _ (s : List ℕ) where
   opened_says =
       by_outcome (block_at s (coded no_rules) true (first_start s))
       (λ a b.
-      let k : BlockSays s no_rules true 0 (first_start s) (ok a) = rw b at first_says in
+      let k : BlockSays s no_rules true 0 (first_start s) (Ok a) = rw b at first_says in
       rw (step_on 256 s [] 0 (coded no_rules) (after_none 1) refl (λ z. omega arith) b (none_repeated (block_named k.block.block)), sym k.coded_are)
       (from_says 256 k.rules (a.row ∷ []) a.next (passed_first k.from k.block) refl))
       (λ x b. rw (step_failed 256 s [] 0 (coded no_rules) (after_none 1) refl (λ z. omega arith) b) (first_block first_at (rw b at first_says)))
@@ -186,9 +186,9 @@ module _ (s : List ℕ) where
       first_says = block-says s no_rules no_rules_asking (first first_at)
 
   -- What `opened` gives is a partition,
-  pub opened-sound : {rows : List Row} → opened s ≡ ok rows → Partition s rows
+  pub opened-sound : {rows : List Row} → opened s ≡ Ok rows → Partition s rows
   opened-sound e = rw e at opened_says
 
   -- and an error that it gives is due.
-  pub error-sound : {x : Error} → opened s ≡ failed x → FileError s x
+  pub error-sound : {x : Error} → opened s ≡ Err x → FileError s x
   error-sound e = rw e at opened_says

@@ -1,4 +1,5 @@
 -- A file has one partition at most; each header of a partition has a parse, and each row lies inside the file.
+use Rattle.std.specs.Prelude.{Ok}
 use mathlib.Core.Path.{◌≡◌, refl, sym, ap, subst, ◌∙◌}
 use mathlib.Core.Logic.{⊎_elim}
 use mathlib.Core.List.Memᴰ
@@ -6,7 +7,6 @@ use mathlib.Core.List.{List, [], ◌∷◌, map, Memᴰ}
 use Prim.Native.Nat.{ℕ, ◌+◌, ◌≤◌}
 use native.Mathlib.Omega.{arith}
 use lib.ListN.{length}
-use Rattle.scan.specs.Outcome.{ok}
 use Rattle.scan.proofs.Chains.{chain_member}
 use Rattle.header.specs.Grammar.{IsHeader}
 use Rattle.blocks.specs.Grammar.{Gap, IsBlock, SpacedBlock, Partition, Block, Cut, BlockHeader, block_of}
@@ -18,7 +18,7 @@ module _ {s : List ℕ} where
   -- ---- One partition
 
   pub partition_unique : {rows others : List Row} → Partition s rows → Partition s others → rows ≡ others
-  partition_unique {rows} {others} a b = let e : ok rows ≡ ok others = sym (opened_complete s a) ∙ opened_complete s b in cc
+  partition_unique {rows} {others} a b = let e : Ok rows ≡ Ok others = sym (opened_complete s a) ∙ opened_complete s b in cc
 
   pub cut_unique : {blocks others : List Block} → Cut s blocks → Cut s others → blocks ≡ others
   cut_unique a b = a.are ∙ ap (map block_of) (partition_unique a.partition b.partition) ∙ sym b.are

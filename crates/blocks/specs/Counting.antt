@@ -1,6 +1,5 @@
 -- Which keys of a header count, as functions of what it says.
-use Rattle.std.specs.Prelude.{Bool, cond, List, [], ◌∷◌, ℕ, eqb, get_or, take}
-use Rattle.std.proofs.Math.Option.{Option}
+use Rattle.std.specs.Prelude.{Bool, cond, List, [], ◌∷◌, ℕ, eqb, get_or, take, Option}
 use Rattle.scan.specs.Byte.{ascii, same}
 use Rattle.header.specs.Entries.{value_in}
 use Rattle.header.specs.Entry.{Entry}

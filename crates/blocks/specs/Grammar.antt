@@ -1,8 +1,7 @@
 -- The grammar of a file: its partition into blocks. Facts about the file's bytes; nothing here says how a file is read,
 -- and no error code stands here.
-use Rattle.std.specs.Prelude.{◌≡◌, ◌≢◌, ◌⊎◌, true, ℕ, suc, ◌+◌, ◌*◌, ◌≤◌, ◌<◌, pos, length}
+use Rattle.std.specs.Prelude.{◌≡◌, ◌≢◌, ◌⊎◌, true, ℕ, suc, ◌+◌, ◌*◌, ◌≤◌, ◌<◌, pos, length, Option, None, Some}
 use mathlib.Core.List.{List, [], ◌∷◌, map, Memᴰ}
-use Rattle.std.proofs.Math.Option.{Option, none, some}
 use Rattle.scan.specs.Byte.{byte, ascii}
 use Rattle.scan.specs.Chain.{Chain}
 use Rattle.text.specs.Whitespace.{whitespace}
@@ -34,12 +33,12 @@ pub record GeneralHeader (es : List Entry) (r : Rules) : Type 0 where
   pub asks : AsksFor blocks count
   pub kind : r.kind ≡ kind_2
   pub boundary : NumberOr (CountsAs es (ascii "edf_blockboundary")) 512 1 r.boundary
-  pub general : r.general ≡ some count
+  pub general : r.general ≡ Some count
 
 -- The rules of a file with no general header. In kind 1 a header's "length need be no multiple of anything": each is a multiple of 1.
 abbrev pub plain_rules : Kind → Rules
-plain_rules kind_1 = record { kind = kind_1; boundary = 1; general = none }
-plain_rules kind_2 = record { kind = kind_2; boundary = 512; general = none }
+plain_rules kind_1 = record { kind = kind_1; boundary = 1; general = None }
+plain_rules kind_2 = record { kind = kind_2; boundary = 512; general = None }
 
 -- A first header with the entries `es` gives the file the rules `r`. "A file is of kind 2 exactly if its first header has a statement
 -- and its key starts with `edf_`; else of kind 1." "Kind 2, first header: its first key is EDF_DataFormatVersion (..) or
@@ -61,9 +60,9 @@ pub record NoIdentity (row : Row) : Type 0 where
 -- header starts with EDF_DataBlockID." "Identity, the value of EDF_DataBlockID in each data block of kind 2".
 pub data HasRole (r : Rules) (start : ℕ) (es : List Entry) (row : Row) : Type 0 where
   plain-block : r.kind ≡ kind_1 → row.kind ≡ 1 → NoIdentity row → HasRole r start es row
-  general_block : {count : ℕ} → r.kind ≡ kind_2 → r.general ≡ some count → start ≡ 0 → row.kind ≡ 0 → NoIdentity row
+  general_block : {count : ℕ} → r.kind ≡ kind_2 → r.general ≡ Some count → start ≡ 0 → row.kind ≡ 0 → NoIdentity row
       → HasRole r start es row
-  data_block : {id : List ℕ} → r.kind ≡ kind_2 → (r.general ≡ none) ⊎ (start ≢ 0) → row.kind ≡ 1 → HasKey es 0 (ascii "edf_datablockid") id
+  data_block : {id : List ℕ} → r.kind ≡ kind_2 → (r.general ≡ None) ⊎ (start ≢ 0) → row.kind ≡ 1 → HasKey es 0 (ascii "edf_datablockid") id
       → IsIdentity id row.sequence row.instance row.memory → HasRole r start es row
 
 -- "the extent's length is Size (absent: 0)", or EDF_BinarySize, "a whole number from 0".
@@ -149,8 +148,8 @@ DistinctIdentities (x ∷ xs) = ((y : Row) → Memᴰ y xs → SameIdentity x y 
 
 -- "equal to the blocks beside the general one", where there is a general one.
 abbrev pub CountIs : Option ℕ → ℕ → Type 0
-CountIs none count = Unit {0}
-CountIs (some asked) count = count ≡ suc asked
+CountIs None count = Unit {0}
+CountIs (Some asked) count = count ≡ suc asked
 
 -- A partition of a file into blocks (01: a cut), each given by its row: "A file is 1 to 256 blocks", "that keeps every rule of this
 -- section, judged by the file's bytes alone"; "in a cut the blocks and such white together use up every byte".

@@ -1,9 +1,8 @@
 -- One block, as a function, with errors 9 to 12: by what its header says, its header's length, the file's length and the
 -- file's rules. And whether a first header makes a file one of kind 2.
-use Rattle.std.specs.Prelude.{Bool, true, false, cond, not, ◌&&◌, List, ℕ, suc, ◌+◌, ◌%◌, eqb, leb, ℤ, pos, negsuc, length}
-use Rattle.std.proofs.Math.Option.{Option, none, some, map}
+use Rattle.std.specs.Prelude.{Bool, true, false, cond, not, ◌&&◌, List, ℕ, suc, ◌+◌, ◌%◌, eqb, leb, ℤ, pos, negsuc, length, Option, None, Some, option_map, is_some, is_none, Ok, Err}
+use Rattle.scan.specs.Outcome.{Outcome, require, present, ◌>>=◌, ◌>>◌}
 use Rattle.scan.specs.Byte.{same}
-use Rattle.scan.specs.Outcome.{is_some, is_none, Outcome, ok, failed, require, present, ◌>>=◌, ◌>>◌}
 use Rattle.text.specs.Number.{whole_number}
 use Rattle.header.specs.Entries.{entries, value_in}
 use Rattle.header.specs.Entry.{Entry, body_of}
@@ -27,24 +26,24 @@ abbrev pub rules_with : ℕ → ℕ → ℕ → FileRules
 rules_with kind boundary expected = record { kind = kind; boundary = boundary; expected = expected }
 
 abbrev pub general_by : Option ℕ → Option ℕ → Option FileRules
-general_by none boundary = none
-general_by (some expected) none = none
-general_by (some expected) (some boundary) = some (rules_with 2 boundary expected)
+general_by None boundary = None
+general_by (Some expected) None = None
+general_by (Some expected) (Some boundary) = Some (rules_with 2 boundary expected)
 
 -- Of a general header.
 unfoldable pub general_rules : List Entry → Option FileRules
 general_rules es =
     cond (is_version (first es).value && same (second es).key DataBlocksKey)
     (general_by (asked_for (second es).value) (number_or default_boundary 1 (value_in BoundaryKey (counting es))))
-    none
+    None
 
 -- Of any first header; none where a rule is broken.
 unfoldable pub rules_of : List Entry → Option FileRules
 rules_of es =
     cond (is_edf_key (first es).key)
     (cond (same (first es).key VersionKey) (general_rules es)
-    (cond (same (first es).key BlockIDKey) (some (rules_with 2 default_boundary 0)) none))
-    (some (rules_with 1 plain_boundary 0))
+    (cond (same (first es).key BlockIDKey) (Some (rules_with 2 default_boundary 0)) None))
+    (Some (rules_with 1 plain_boundary 0))
 
 -- ---- What a header says of its block
 
@@ -55,26 +54,26 @@ unnamed kind = record { kind = kind; identity = record { sequence = pos 0; insta
 -- In kind 1; of a general block, the first block where data blocks are asked for; and of a data block.
 unfoldable pub role_of : FileRules → Bool → List Entry → Option Role
 role_of r isFirst es =
-    cond (eqb r.kind 1) (some (unnamed 1))
-    (cond (isFirst && not (eqb r.expected 0)) (some (unnamed 0))
+    cond (eqb r.kind 1) (Some (unnamed 1))
+    (cond (isFirst && not (eqb r.expected 0)) (Some (unnamed 0))
     (cond (same (first es).key BlockIDKey)
-    (map (λ (i : Identity). record { kind = 1; identity = i }) (identity_of (first es).value))
-    none))
+    (option_map (λ (i : Identity). record { kind = 1; identity = i }) (identity_of (first es).value))
+    None))
 
 -- ---- EDF_HeaderSize, where it counts
 
 unfoldable pub is_whole_or_absent : Option (List ℕ) → Bool
-is_whole_or_absent none = true
-is_whole_or_absent (some v) = is_some (whole_number v)
+is_whole_or_absent None = true
+is_whole_or_absent (Some v) = is_some (whole_number v)
 
 abbrev pub is_number : ℕ → Option ℤ → Bool
-is_number n none = false
-is_number n (some (pos m)) = eqb m n
-is_number n (some (negsuc m)) = false
+is_number n None = false
+is_number n (Some (pos m)) = eqb m n
+is_number n (Some (negsuc m)) = false
 
 unfoldable pub is_length_or_absent : ℕ → Option (List ℕ) → Bool
-is_length_or_absent n none = true
-is_length_or_absent n (some v) = is_number n (whole_number v)
+is_length_or_absent n None = true
+is_length_or_absent n (Some v) = is_number n (whole_number v)
 
 -- 11: "length not a multiple, or not EDF_HeaderSize".
 unfoldable pub length_allowed : FileRules → List Entry → ℕ → Bool
@@ -105,12 +104,12 @@ judged r isFirst fileLength start header es = do
   require (is_none (value_in FileNameKey (counting_in r.kind es))) 10 start
   require (length_allowed r es header) 11 start
   require (leb (start + header + size) fileLength) 12 start
-  ok (record { row = row_with start header size role; next = start + header + size; rules = r })
+  Ok (record { row = row_with start header size role; next = start + header + size; rules = r })
 
 -- The rules for a block: the first header gives them, the others keep them.
 abbrev pub rules_for : FileRules → Bool → List Entry → Option FileRules
 rules_for r true es = rules_of es
-rules_for r false es = some r
+rules_for r false es = Some r
 
 -- The block at `start`, with errors 3 to 12 in their order.
 unfoldable pub block_at : List ℕ → FileRules → Bool → ℕ → Outcome Accepted
@@ -124,12 +123,12 @@ block_at s given isFirst start = do
 
 -- By the statements of a header: it "has passed check 6" if they are well formed, and then its first key decides.
 abbrev pub edf_first : List ℕ → Option (List Statement) → Bool
-edf_first body none = false
-edf_first body (some ts) = is_edf_key (first (entries body ts)).key
+edf_first body None = false
+edf_first body (Some ts) = is_edf_key (first (entries body ts)).key
 
 abbrev pub edf_header : List ℕ → Outcome Header → Bool
-edf_header s (ok h) = edf_first (body_of s h) (statements_from (body_of s h) (suc h.left))
-edf_header s (failed e) = false
+edf_header s (Ok h) = edf_first (body_of s h) (statements_from (body_of s h) (suc h.left))
+edf_header s (Err e) = false
 
 -- The header at an offset, as the first of a file, "proves kind 2".
 unfoldable pub proves_kind2 : List ℕ → ℕ → Bool

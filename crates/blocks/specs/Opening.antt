@@ -1,7 +1,7 @@
 -- Opening a file, as a function: its rows, or an error with 01's code and position. Block by block, "14 before anything else
 -- of its block; 15 last".
-use Rattle.std.specs.Prelude.{Bool, false, cond, not, ◌&&◌, ◌||◌, List, [], ◌∷◌, ◌++◌, ℕ, zero, suc, eqb, leb, ℤ, pos, negsuc, length, drop}
-use Rattle.scan.specs.Outcome.{Outcome, ok, failed, refused, require, ◌>>=◌, ◌>>◌}
+use Rattle.std.specs.Prelude.{Bool, false, cond, not, ◌&&◌, ◌||◌, List, [], ◌∷◌, ◌++◌, ℕ, zero, suc, eqb, leb, ℤ, pos, negsuc, length, drop, Ok, Err}
+use Rattle.scan.specs.Outcome.{Outcome, refused, require, ◌>>=◌, ◌>>◌}
 use Rattle.text.specs.Whitespace.{visible_from}
 use Rattle.blocks.specs.Judging.{block_at, proves_kind2, rules_with}
 use Rattle.blocks.specs.Limits.{file_limit, block_limit, plain_boundary}
@@ -60,7 +60,7 @@ opened_from zero s rows end r = refused 14 end
 opened_from (suc n) s rows end r =
     let start = start_after s (length rows) r.kind end in
     cond (ended (length rows) start (length s))
-    (require (count_matches r.expected (length rows)) 15 0 >> ok rows)
+    (require (count_matches r.expected (length rows)) 15 0 >> Ok rows)
     (do
       require (not (eqb (length rows) block_limit)) 14 start
       b ← block_at s r (eqb (length rows) 0) start
@@ -84,10 +84,10 @@ opened_into n s = do
 
 -- What the call answers: the number of rows.
 abbrev pub count_of : Outcome (List Row) → Outcome ℕ
-count_of (ok rows) = ok (length rows)
-count_of (failed e) = failed e
+count_of (Ok rows) = Ok (length rows)
+count_of (Err e) = Err e
 
 -- The table afterwards: "Rows past the last block keep what they held", and an error changes nothing.
 unfoldable pub table_after : Outcome (List Row) → List Row → List Row
-table_after (ok rows) table = rows ++ drop (length rows) table
-table_after (failed e) table = table
+table_after (Ok rows) table = rows ++ drop (length rows) table
+table_after (Err e) table = table

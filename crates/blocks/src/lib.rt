@@ -18,6 +18,7 @@ pub const PLAIN_BOUNDARY: usize = 1;
 // A block, as a row of the table that opening fills: its start, the length of its header, the size of its data, and its kind, 0 for
 // a general block and 1 for a data block; then its identity, with instance 1 for Psd and 2 for Error. The last three are 0
 // for a general block and in files of kind 1.
+// Its fields are numbers, since any numbers stand in a row that a caller lends.
 #[derive(Clone, Copy)]
 pub struct Row {
     pub start: usize,
@@ -46,6 +47,7 @@ pub struct Role {
 
 // What the first header says of the whole file: its kind, 1 or 2; the boundary of headers; and how many data blocks the
 // general header asks for, 0 where there is no general header.
+// The kind is a number, as the definitions of `blocks` take it: `next_start`, `counting_in`, `size_value`.
 #[derive(Clone, Copy)]
 pub struct FileRules {
     pub kind: u8,
@@ -59,11 +61,4 @@ pub struct Accepted {
     pub row: Row,
     pub next: usize,
     pub rules: FileRules,
-}
-
-// The answer of opening a file: the number of blocks.
-#[derive(Clone, Copy)]
-pub enum Opened {
-    Blocks(usize),
-    Failed(Error),
 }

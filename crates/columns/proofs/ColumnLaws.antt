@@ -1,9 +1,12 @@
 -- Columns, piece by piece.
-use mathlib.Core.Path.{◌≡◌, refl, ap, ◌∙◌}
+use mathlib.Core.Path.{◌≡◌, refl, sym, ap, ◌∙◌}
 use mathlib.Core.List.{List, [], ◌∷◌, ◌++◌, append_assoc, append-nil}
-use Prim.Native.Nat.{ℕ}
+use Prim.Native.Nat.{ℕ, ◌+◌, ◌-◌, ◌<◌, ◌≤◌}
+use native.Mathlib.Omega.{arith}
+use Rattle.std.specs.Prelude.{map}
+use Rattle.std.proofs.lemmas.List.{map_more, take_all}
 use borrow.Author.Tests.{eq-eqb, ne_eqb}
-use lib.ListN.{take}
+use lib.ListN.{length, take, drop, get_or}
 use Rattle.scan.specs.Byte.{ascii}
 use Rattle.scan.specs.declared.Error.{Error}
 use Rattle.blocks.specs.IdentityText.{identity_text}
@@ -33,19 +36,22 @@ module _ (b : ℕ) where
 
 -- ---- The columns of an array
 
-module _ (a b c : ℕ) where
-  pub one_dim : (n : ℕ) → n ≡ 1 → 32 ∷ number a ≡ 32 ∷ dims_text (take n (a ∷ b ∷ c ∷ []))
-  unfolding dims_text after
-  one_dim n e = rw e (simp append-nil)
+-- The next dimension.
+pub after_more : (i : ℕ) (ds : List ℕ) → i < length ds
+    → after 120 (map number (take i ds)) ++ (120 ∷ number (get_or ds i 0)) ≡ after 120 (map number (take (i + 1) ds))
+unfolding after
+after_more i ds h =
+    ap (λ (l : List ℕ). after 120 (map number (take i ds)) ++ l) (sym (append-nil (120 ∷ number (get_or ds i 0))))
+    ∙ after_both 120 (map number (take i ds)) (number (get_or ds i 0) ∷ []) ∙ ap (after 120) (sym (map_more number ds i 0 h))
 
-  pub two_dims : (n : ℕ) → n ≡ 2 → (32 ∷ number a) ++ (120 ∷ number b) ≡ 32 ∷ dims_text (take n (a ∷ b ∷ c ∷ []))
-  unfolding dims_text after
-  two_dims n e = rw e (simp append-nil)
-
-  pub three_dims : (n : ℕ) → n ≡ 3
-      → ((32 ∷ number a) ++ (120 ∷ number b)) ++ (120 ∷ number c) ≡ 32 ∷ dims_text (take n (a ∷ b ∷ c ∷ []))
-  unfolding dims_text after
-  three_dims n e = rw e (simp (append_assoc, append-nil))
+-- Dim_1, and all the others.
+pub dims_joined : (k : ℕ) (ds : List ℕ) → 1 ≤ length ds → length ds ≤ k + 1
+    → (32 ∷ number (get_or ds 0 0)) ++ after 120 (map number (take k (take (length ds - 1) (drop 1 ds)))) ≡ 32 ∷ dims_text ds
+unfolding dims_text
+dims_joined k [] h l = absurd (omega (arith, h))
+dims_joined k (d ∷ ds) h l =
+    ap (λ (r : List ℕ). (32 ∷ number d) ++ after 120 (map number r))
+    (ap (take k) (take_all _ ds (omega arith)) ∙ take_all k ds (omega (arith, l)))
 
 pub array_is : (d : Description)
     → ((after 32 (words_columns d) ++ (32 ∷ dims_text (array_dims d))) ++ (letter_of d.origins.dims ∷ [])) ++ after 32 (numbers_columns d)

@@ -1,132 +1,108 @@
 // The columns of an array: the text of each field, and straight after it the letter of its origin.
-ghost use Rattle.std.specs.Prelude.{[], ◌∷◌, ◌+◌, ◌-◌, ◌≤◌, ◌<◌, ◌^◌, length, take, get_or};
+ghost use Rattle.std.specs.Prelude.{[], ◌∷◌, ◌-◌, ◌≤◌, ◌<◌, ◌^◌, ℕ, length, get_or};
 ghost use Rattle.text.specs.Decimal.{decimal};
 ghost use Rattle.origins.specs.Letter.{letter_of};
 ghost use Rattle.raster.specs.Types.{type_of, order_words};
-ghost use Rattle.append.specs.Append.{Appended};
+ghost use Rattle.append.specs.Append.{HasRoom, AppendedWithin};
 ghost use Rattle.columns.specs.Columns.{number, after, dims_text, marked, words_columns, numbers_columns, array_columns, Answered};
 ghost use Rattle.columns.specs.Most.{letter_most, type_column, order_column, words_most, dims_column, marked_number, numbers_most, array_most};
 
-use crate::row::{append_byte, number_after};
-use append::bytes::append_decimal;
-use append::words::{append_order, append_type};
+use crate::row::number_after;
+use append::appender::Appender;
 use description::Description;
 use keyword::Origin;
 use origins::letters::letter_of;
 
-fn append_letter(origin: Origin, out: &mut [u8], at: usize) -> usize
-    requires { at + letter_most ≤ length out.old }
-    ensures { Appended (letter_of origin ∷ []) at out.old out.new result }
+fn append_letter(origin: Origin, out: &mut Appender<'_>)
+    requires { HasRoom letter_most out.old }
+    ensures { AppendedWithin letter_most (letter_of origin ∷ []) out.old out.new }
 {
-    let letter = letter_of(origin);
-    append_byte(letter, out, at)
+    out.append(&[letter_of(origin)]);
 }
 
 // ---- Type and order
 
-fn type_column(datatype: u8, origin: Origin, out: &mut [u8], at: usize) -> usize
+fn type_column(datatype: u8, origin: Origin, out: &mut Appender<'_>)
     requires le_datatype { (1 ≤ datatype) × (datatype ≤ 10) }
-    requires type_column_in_bounds { at + type_column ≤ length out.old }
-    ensures appended { Appended (32 ∷ marked (type_of datatype).word origin) at out.old out.new result }
-    ensures upper_bound { result ≤ at + type_column }
+    requires room { HasRoom type_column out.old }
+    ensures { AppendedWithin type_column (32 ∷ marked (type_of datatype).word origin) out.old out.new }
 {
-    let a = append_byte(32, out, at);
-    let b = append_type(datatype, out, a);
-    append_letter(origin, out, b)
+    out.append(b" ");
+    out.append_type(datatype);
+    append_letter(origin, out);
 }
 
-fn order_column(byteorder: u8, origin: Origin, out: &mut [u8], at: usize) -> usize
+fn order_column(byteorder: u8, origin: Origin, out: &mut Appender<'_>)
     requires le_byteorder { (1 ≤ byteorder) × (byteorder ≤ 2) }
-    requires order_column_in_bounds { at + order_column ≤ length out.old }
-    ensures appended { Appended (32 ∷ marked (get_or order_words (byteorder - 1) []) origin) at out.old out.new result }
-    ensures upper_bound { result ≤ at + order_column }
+    requires room { HasRoom order_column out.old }
+    ensures { AppendedWithin order_column (32 ∷ marked (get_or order_words (byteorder - 1) []) origin) out.old out.new }
 {
-    let a = append_byte(32, out, at);
-    let b = append_order(byteorder, out, a);
-    append_letter(origin, out, b)
+    out.append(b" ");
+    out.append_order(byteorder);
+    append_letter(origin, out);
 }
 
-fn words_columns(d: Description, out: &mut [u8], at: usize) -> usize
+fn words_columns(d: Description, out: &mut Appender<'_>)
     requires answered { Answered d }
-    requires words_most_in_bounds { at + words_most ≤ length out.old }
-    ensures appended { Appended (after 32 (words_columns d)) at out.old out.new result }
-    ensures upper_bound { result ≤ at + words_most }
+    requires room { HasRoom words_most out.old }
+    ensures { AppendedWithin words_most (after 32 (words_columns d)) out.old out.new }
 {
-    let origins = d.origins;
-    let datatype = origins.datatype;
-    let byteorder = origins.byteorder;
-    let a = type_column(d.datatype, datatype, out, at);
-    order_column(d.byteorder, byteorder, out, a)
+    type_column(d.datatype, d.origins.datatype, out);
+    order_column(d.byteorder, d.origins.byteorder, out);
 }
 
 // ---- Dims
 
-// The first n dimensions, without a letter.
-fn dims_column(n: u8, dim1: usize, dim2: usize, dim3: usize, out: &mut [u8], at: usize) -> usize
-    requires le_n { (1 ≤ n) × (n ≤ 3) }
-    requires dim1_bound { (dim1 < 2 ^ 63) × (dim2 < 2 ^ 63) × (dim3 < 2 ^ 63) }
-    requires dims_column_in_bounds { at + dims_column ≤ length out.old }
-    ensures appended { Appended (32 ∷ dims_text (take n (dim1 ∷ dim2 ∷ dim3 ∷ []))) at out.old out.new result }
-    ensures upper_bound { result ≤ at + dims_column }
+// One to three dimensions, without a letter.
+fn dims_column(dims: &[usize], out: &mut Appender<'_>)
+    requires some { (1 ≤ length dims.now) × (length dims.now ≤ 3) }
+    requires small { (i : ℕ) → i < length dims.now → get_or dims.now i 0 < 2 ^ 63 }
+    requires room { HasRoom dims_column out.old }
+    ensures { AppendedWithin dims_column (32 ∷ dims_text dims.now) out.old out.new }
 {
-    let a = number_after(32, dim1, out, at);
-    if n == 1 {
-        return a;
+    number_after(b' ', dims[0], out);
+    for dim in &dims[1..] {
+        number_after(b'x', *dim, out);
     }
-    let b = number_after(120, dim2, out, a);
-    if n == 2 {
-        return b;
-    }
-    number_after(120, dim3, out, b)
 }
 
 // ---- Configuration, orientation and value offset
 
-fn marked_number(n: u32, origin: Origin, out: &mut [u8], at: usize) -> usize
-    requires { at + marked_number ≤ length out.old }
-    ensures appended { Appended (32 ∷ marked (number n) origin) at out.old out.new result }
-    ensures upper_bound { result ≤ at + marked_number }
+fn marked_number(n: u32, origin: Origin, out: &mut Appender<'_>)
+    requires { HasRoom marked_number out.old }
+    ensures { AppendedWithin marked_number (32 ∷ marked (number n) origin) out.old out.new }
 {
-    let a = number_after(32, n as usize, out, at);
-    append_letter(origin, out, a)
+    number_after(b' ', n as usize, out);
+    append_letter(origin, out);
 }
 
-fn offset_column(n: i64, origin: Origin, out: &mut [u8], at: usize) -> usize
-    requires { at + marked_number ≤ length out.old }
-    ensures appended { Appended (32 ∷ marked (decimal n) origin) at out.old out.new result }
-    ensures upper_bound { result ≤ at + marked_number }
+fn offset_column(n: i64, origin: Origin, out: &mut Appender<'_>)
+    requires { HasRoom marked_number out.old }
+    ensures { AppendedWithin marked_number (32 ∷ marked (decimal n) origin) out.old out.new }
 {
-    let a = append_byte(32, out, at);
-    let b = append_decimal(n, out, a);
-    append_letter(origin, out, b)
+    out.append(b" ");
+    out.append_decimal(n);
+    append_letter(origin, out);
 }
 
-fn numbers_columns(d: Description, out: &mut [u8], at: usize) -> usize
-    requires { at + numbers_most ≤ length out.old }
-    ensures appended { Appended (after 32 (numbers_columns d)) at out.old out.new result }
-    ensures upper_bound { result ≤ at + numbers_most }
+fn numbers_columns(d: Description, out: &mut Appender<'_>)
+    requires { HasRoom numbers_most out.old }
+    ensures { AppendedWithin numbers_most (after 32 (numbers_columns d)) out.old out.new }
 {
-    let origins = d.origins;
-    let configuration = origins.configuration;
-    let orientation = origins.orientation;
-    let offset = origins.offset;
-    let a = marked_number(d.configuration, configuration, out, at);
-    let b = marked_number(d.orientation, orientation, out, a);
-    offset_column(d.offset, offset, out, b)
+    marked_number(d.configuration, d.origins.configuration, out);
+    marked_number(d.orientation, d.origins.orientation, out);
+    offset_column(d.offset, d.origins.offset, out);
 }
 
 // ---- All
 
-pub fn array_columns(d: Description, out: &mut [u8], at: usize) -> usize
+pub fn array_columns(d: Description, out: &mut Appender<'_>)
     requires answered { Answered d }
-    requires array_most_in_bounds { at + array_most ≤ length out.old }
-    ensures appended { Appended (after 32 (array_columns d)) at out.old out.new result }
-    ensures upper_bound { result ≤ at + array_most }
+    requires room { HasRoom array_most out.old }
+    ensures { AppendedWithin array_most (after 32 (array_columns d)) out.old out.new }
 {
-    let origins = d.origins;
-    let dims = origins.dims;
-    let a = words_columns(d, out, at);
-    let b = dims_column(d.n, d.dim1, d.dim2, d.dim3, out, a);
-    let c = append_letter(dims, out, b);
-    numbers_columns(d, out, c)
+    words_columns(d, out);
+    dims_column(&[d.dim1, d.dim2, d.dim3][..d.n as usize], out);
+    append_letter(d.origins.dims, out);
+    numbers_columns(d, out);
 }

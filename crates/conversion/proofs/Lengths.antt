@@ -1,28 +1,31 @@
 -- The bytes of an element that is made anew, and of a row of them.
 use mathlib.Core.Path.{◌≡◌, ◌∙◌}
-use mathlib.Core.Bool.{Bool, true, false, cond}
+use mathlib.Core.Bool.{true}
 use mathlib.Core.List.{List}
 use Prim.Native.Nat.{ℕ, ◌*◌, ◌<◌}
 use lib.ListN.{length}
-use Rattle.raster.specs.Strided.{turned, place, Inside2, row_of}
+use Rattle.raster.specs.Strided.{place, row_of}
 use Rattle.raster.proofs.RoundTrip.{length-turned}
 use Rattle.strides.proofs.RowLaws.{length_row}
-use Rattle.shift.specs.Shifting.{shifted_bytes}
-use Rattle.shift.proofs.Swaps.{length_shifted}
-use Rattle.conversion.specs.Converting.{converted}
+use Rattle.shift.proofs.Digits.{length_added}
+use Rattle.conversion.specs.Converting.{made_by, converted}
+use Rattle.conversion.specs.Plane.{IsInside}
+use Rattle.conversion.specs.declared.rows.Plane.{Plane}
 use Rattle.conversion.specs.declared.conversion.Conversion.{Conversion}
+use Rattle.conversion.specs.declared.conversion.Way.{Way}
+use Rattle.conversion.specs.declared.conversion.Way.TheVariants.{Kept, Reversed, Added}
 
-converted_by : (adds : Bool) (c : Conversion) (l : List ℕ) → length l ≡ c.width
-    → length (cond adds (shifted_bytes c.width c.shift c.order c.asked l) (turned c.reverses l)) ≡ c.width
-converted_by true c l e = length_shifted c.shift c.order c.asked l e
-converted_by false c l e = length-turned c.reverses l ∙ e
+length-made : (y : Way) {w : ℕ} (l : List ℕ) → length l ≡ w → length (made_by w y l) ≡ w
+unfolding made_by
+length-made Kept l e = e
+length-made Reversed l e = length-turned true l ∙ e
+length-made (Added a) l e = length_added a l e
 
 pub length-converted : (c : Conversion) (l : List ℕ) → length l ≡ c.width → length (converted c l) ≡ c.width
-unfolding converted
-length-converted c l e = converted_by c.adds c l e
+length-converted c l e = length-made c.way l e
 
-pub length_rows : (c : Conversion) (s : List ℕ) (at up1 down1 n1 up2 down2 n2 : ℕ)
-    → Inside2 at up1 down1 n1 up2 down2 n2 c.width (length s)
-    → (i : ℕ) → i < n2 → length (row_of (converted c) c.width s (place at up2 down2 i) up1 down1 n1) ≡ c.width * n1
-length_rows c s at up1 down1 n1 up2 down2 n2 inside i h =
-    length_row (converted c) c.width (length-converted c) s (place at up2 down2 i) up1 down1 n1 (inside i h).1
+-- Each row of a plane.
+pub length_rows : (c : Conversion) (s : List ℕ) (p : Plane) → IsInside p c.width (length s) → (i : ℕ) → i < p.count
+    → length (row_of (converted c) c.width s (place p.first.at p.up p.down i) p.first.up p.first.down p.first.count) ≡ c.width * p.first.count
+length_rows c s p inside i h =
+    length_row (converted c) c.width (length-converted c) s (place p.first.at p.up p.down i) p.first.up p.first.down p.first.count (inside i h).1

@@ -1,4 +1,3 @@
 pub mod Conversions
 pub mod Lengths
 pub mod Limits
-pub mod Signs

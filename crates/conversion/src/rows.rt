@@ -1,48 +1,63 @@
 // Rows of an array: one, and one after another.
-ghost use Rattle.std.specs.Prelude.{◌≡◌, ◌*◌, length};
-ghost use Rattle.raster.specs.Strided.{Inside, Inside2, Width, row_of, plane_of};
+ghost use Rattle.std.specs.Prelude.{◌≡◌, ◌<◌, length};
+ghost use Rattle.raster.specs.Strided.{Width};
+ghost use Rattle.strides.specs.Row.{Fits, elements_of};
 ghost use Rattle.conversion.specs.Converting.{converted};
+ghost use Rattle.conversion.specs.Plane.{IsInside, FillsOut, row_at, rows_of};
 
-use crate::conversion::Conversion;
+use crate::conversion::{Conversion, Way};
 use elements::rows::{kept, reversed};
-use offsets::adding::added;
-use raster::stride::Steps;
-use strides::places::spot;
+use offsets::rows::with_offset;
+use strides::places::{Row, spot};
 
-// A row: by the loop for what its elements need.
-pub fn row(src: &[u8], c: Conversion, at: usize, up: usize, down: usize, n: usize, out: &mut [u8])
-    requires width { Width c.width }
-    requires inside { Inside at up down n c.width (length src.now) }
-    requires out_len { length out.old ≡ c.width * n }
-    ensures { out.new ≡ row_of (converted c) c.width src.now at up down n }
-{
-    if c.adds {
-        let s = c.shift;
-        added(src, c.width, at, up, down, n, c.order, c.asked, s, out);
-        return;
-    }
-    if c.reverses {
-        reversed(src, c.width, at, up, down, n, out);
-        return;
-    }
-    kept(src, c.width, at, up, down, n, out);
+// Rows at a stride: the first of them, each next one `up` bytes above, or `down` bytes below, and how many they are.
+#[derive(Clone, Copy)]
+pub struct Plane {
+    pub first: Row,
+    pub up: usize,
+    pub down: usize,
+    pub count: usize,
 }
 
-// n2 rows, one after the other.
-pub fn rows(src: &[u8], c: Conversion, at: usize, t: Steps, n1: usize, n2: usize, out: &mut [u8])
+impl Plane {
+    // The row with index i.
+    pub fn row(self, w: usize, src: &[u8], i: usize) -> Row
+        requires inside { IsInside self w (length src.now) }
+        requires below { i < self.count }
+        ensures { result ≡ row_at self i }
+    {
+        let at = spot(self.first.at, self.up, self.down, i, 0, src.len());
+        Row { at, ..self.first }
+    }
+}
+
+// A row: by the loop for what its elements need. It comes as a reference: one that was just made is slow to copy.
+pub fn row(src: &[u8], c: Conversion, row: &Row, out: &mut [u8])
     requires width { Width c.width }
-    requires inside2 { Inside2 at t.up1 t.down1 n1 t.up2 t.down2 n2 c.width (length src.now) }
-    requires out_len { length out.old ≡ c.width * n1 * n2 }
-    ensures { out.new ≡ plane_of (converted c) c.width src.now at t.up1 t.down1 n1 t.up2 t.down2 n2 }
+    requires fits { Fits row.now c.width (length src.now) (length out.old) }
+    ensures { out.new ≡ elements_of (converted c) c.width src.now row.now }
 {
-    let w = c.width;
-    let mut i = 0;
-    let mut o = 0;
-    while i < n2 {
-        let p = spot(at, t.up2, t.down2, i, 0, src.len());
-        let e = o + w * n1;
-        row(src, c, p, t.up1, t.down1, n1, &mut out[o..e]);
-        o = e;
-        i += 1;
+    match c.way {
+        Way::Kept => kept(src, c.width, row, out),
+        Way::Reversed => reversed(src, c.width, row, out),
+        Way::Added(a) => with_offset(src, c.width, row, a, out),
+    }
+}
+
+// The rows of a plane, one after the other.
+pub fn rows(src: &[u8], c: Conversion, plane: Plane, out: &mut [u8])
+    requires width { Width c.width }
+    requires inside { IsInside plane c.width (length src.now) }
+    requires fills { FillsOut plane c.width (length out.old) }
+    ensures { out.new ≡ rows_of (converted c) c.width src.now plane }
+{
+    for i in 0..plane.count {
+        let size = c.width * plane.first.count;
+        row(
+            src,
+            c,
+            &plane.row(c.width, src, i),
+            &mut out[size * i..size * (i + 1)],
+        );
     }
 }

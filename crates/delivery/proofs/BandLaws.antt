@@ -1,16 +1,23 @@
 -- A plane that is delivered band by band.
 use mathlib.Core.Path.{◌≡◌, sym, ap, subst, ◌∙◌}
 use mathlib.Core.List.{List, ◌++◌}
-use Prim.Native.Nat.{ℕ, ◌+◌, ◌*◌, ◌≤◌, ◌<◌}
+use Prim.Native.Nat.{ℕ, ◌+◌, ◌-◌, ◌*◌, ◌≤◌, ◌<◌}
+use native.Mathlib.Nat.{mul-add}
 use native.Mathlib.Omega.{arith}
-use lib.ListN.{length}
+use lib.ListN.{length, take, drop, length-take, length-drop}
 use Rattle.scan.specs.Buffer.{over}
 use Rattle.raster.specs.Strided.{patched, place, Inside, Inside2, row_of, plane_of}
-use Rattle.raster.proofs.Joined.{joined_add}
-use Rattle.raster.proofs.Joined.{joined_same}
+use Rattle.raster.proofs.Joined.{joined_add, joined_same}
 use Rattle.strides.proofs.Filling.{length-joined, over_part, pieces_done}
 use Rattle.strides.proofs.RowLaws.{length_row}
-use Rattle.delivery.proofs.TileLaws.{inside_from, place_from}
+use Rattle.delivery.proofs.TileLaws.{within, inside_from, place_from}
+
+-- Of rows of m bytes, n from index i on.
+pub part_size : (m i n : ℕ) → m * (i + n) - m * i ≡ m * n
+part_size m i n = omega (arith, mul-add m i n)
+
+pub part_room : (m i n count : ℕ) (l : List ℕ) → i + n ≤ count → length l ≡ m * count → length (take (m * (i + n) - m * i) (drop (m * i) l)) ≡ m * n
+part_room m i n count l h e = simp (length-take, length-drop) (omega (arith, mul-add m i n, within m i n count h))
 
 module _ (f : List ℕ → List ℕ) (w : ℕ) (keeps : (l : List ℕ) → length l ≡ w → length (f l) ≡ w) (s : List ℕ) (at up1 down1 n1 up2 down2 n2 : ℕ)
     (inside : Inside2 at up1 down1 n1 up2 down2 n2 w (length s)) where

@@ -6,27 +6,33 @@ use Prim.Native.Nat.{ℕ, zero, suc, ◌+◌, ◌*◌, ◌≤◌, ◌<◌}
 use native.Mathlib.Nat.{mul_assoc, mul-suc, suc-mul, mul-zero, zero-mul, mul-one, mul-le-mul_left}
 use native.Mathlib.Omega.{arith}
 use borrow.Author.Tests.{eqb-true}
-use lib.ListN.{length}
+use lib.ListN.{length, drop}
 use Rattle.scan.specs.Buffer.{over}
 use Rattle.scan.proofs.Cases.{both_true}
 use Rattle.raster.specs.Bytes.{joined}
-use Rattle.raster.specs.Strided.{patched, place, Inside, Inside2, Inside3, row_of, plane_of, cube_of}
-use Rattle.raster.specs.declared.stride.Steps.{Steps}
+use Rattle.raster.specs.Strided.{place, Inside, Inside2, row_of, plane_of}
+use Rattle.strides.specs.Row.{elements_of}
+use Rattle.strides.specs.declared.places.Row.{Row}
+use Rattle.conversion.specs.Plane.{IsInside, rows_of}
+use Rattle.conversion.specs.declared.rows.Plane.{Plane}
 use Rattle.raster.proofs.Joined.{joined_same}
 use Rattle.strides.proofs.Filling.{over_part}
 use Rattle.strides.proofs.RowLaws.{length_row}
 use Rattle.strides.proofs.Parts.{row_add}
+use Rattle.delivery.specs.Cube.{plane_at, IsCubeInside, planes_of}
 use Rattle.delivery.specs.Flat.{flat, flat_cube}
+use Rattle.delivery.specs.declared.arrays.Cube.{Cube}
 
 -- ---- The test
 
-pub flat_steps : (w n : ℕ) (t : Steps) → flat w n t ≡ true → (t.up1 ≡ w) × ((t.down1 ≡ 0) × ((t.down2 ≡ 0) × (t.up2 ≡ w * n)))
+pub flat_steps : (w : ℕ) (p : Plane) → flat w p ≡ true
+    → (p.first.up ≡ w) × ((p.first.down ≡ 0) × ((p.down ≡ 0) × (p.up ≡ w * p.first.count)))
 unfolding flat
-flat_steps w n t e =
-    let p = both_true _ _ e in
-    let q = both_true _ _ p.1 in
-    let r = both_true _ _ q.1 in
-    (eqb-true t.up1 w p.0, (eqb-true t.down1 0 q.0, (eqb-true t.down2 0 r.0, eqb-true t.up2 (w * n) r.1)))
+flat_steps w p e =
+    let x = both_true _ _ e in
+    let y = both_true _ _ x.1 in
+    let z = both_true _ _ y.1 in
+    (eqb-true p.first.up w x.0, (eqb-true p.first.down 0 y.0, (eqb-true p.down 0 z.0, eqb-true p.up (w * p.first.count) z.1)))
 
 -- ---- The row
 
@@ -49,50 +55,76 @@ row_inside w at (suc a) (suc b) len h k lt =
     sym (mul_assoc w (suc a) (suc b)) ∙ mul-suc (w * suc a) b ∙ ap (λ (z : ℕ). w * suc a * b + z) (mul-suc w a) in
     (omega (arith, zero-mul k), omega (arith, r.1, zero-mul b))
 
-module _ (w n1 n2 at : ℕ) (t : Steps) (is : flat w n1 t ≡ true) where
-  pub flat_inside : (len : ℕ) → Inside2 at t.up1 t.down1 n1 t.up2 t.down2 n2 w len → Inside at w 0 (n1 * n2) w len
-  flat_inside len h =
-      let e = flat_steps w n1 t is in
-      row_inside w at n1 n2 len
-      (transport (λ j. Inside2 at (e.0 j) (e.1.0 j) n1 (e.1.1.1 j) (e.1.1.0 j) n2 w len) h)
+-- The row that a flat plane is.
+abbrev pub flat_row_of : Plane → Row
+flat_row_of p = record { at = p.first.at; up = p.first.up; down = p.first.down; count = p.first.count * p.count }
 
-  pub flat_row : (f : List ℕ → List ℕ) (s : List ℕ) → row_of f w s at w 0 (n1 * n2) ≡ plane_of f w s at t.up1 t.down1 n1 t.up2 t.down2 n2
+module _ (w : ℕ) (p : Plane) (is : flat w p ≡ true) where
+  pub flat_inside : (len : ℕ) → IsInside p w len → Inside p.first.at p.first.up p.first.down (p.first.count * p.count) w len
+  flat_inside len h =
+      let e = flat_steps w p is in
+      transport (λ j. Inside p.first.at (sym e.0 j) (sym e.1.0 j) (p.first.count * p.count) w len)
+      (row_inside w p.first.at p.first.count p.count len
+      (transport (λ j. Inside2 p.first.at (e.0 j) (e.1.0 j) p.first.count (e.1.1.1 j) (e.1.1.0 j) p.count w len) h))
+
+  pub flat_row : (f : List ℕ → List ℕ) (s : List ℕ) → elements_of f w s (flat_row_of p) ≡ rows_of f w s p
   flat_row f s =
-      let e = flat_steps w n1 t is in
-      sym ((λ j. plane_of f w s at (e.0 j) (e.1.0 j) n1 (e.1.1.1 j) (e.1.1.0 j) n2) ∙ plane_row f w s at n1 n2)
+      let e = flat_steps w p is in
+      let n = p.first.count * p.count in
+      (λ j. row_of f w s p.first.at (e.0 j) (e.1.0 j) n)
+      ∙ sym ((λ j. plane_of f w s p.first.at (e.0 j) (e.1.0 j) p.first.count (e.1.1.1 j) (e.1.1.0 j) p.count) ∙ plane_row f w s p.first.at p.first.count p.count)
 
 -- ---- The cube
 
-module _ (w n1 n2 n3 : ℕ) (t : Steps) (is : flat_cube w n1 n2 t ≡ true) where
-  cube_steps : (t.down3 ≡ 0) × ((t.up3 ≡ w * (n1 * n2)) × (flat w n1 t ≡ true))
+module _ (w : ℕ) (c : Cube) (is : flat_cube w c ≡ true) where
+  abbrev n1 : ℕ
+  n1 = c.first.first.count
+
+  abbrev n2 : ℕ
+  n2 = c.first.count
+
+  cube_steps : (c.down ≡ 0) × ((c.up ≡ w * (n1 * n2)) × (flat w c.first ≡ true))
   unfolding flat_cube
   cube_steps =
       let p = both_true _ _ is in
       let q = both_true _ _ p.1 in
-      (eqb-true t.down3 0 p.0, (eqb-true t.up3 (w * n1 * n2) q.0 ∙ mul_assoc w n1 n2, q.1))
+      (eqb-true c.down 0 p.0, (eqb-true c.up (w * n1 * n2) q.0 ∙ mul_assoc w n1 n2, q.1))
 
-  -- Its planes are rows of a plane.
-  pub cube_inside : (len : ℕ) → Inside3 t n1 n2 n3 w len → Inside t.at w 0 (n1 * n2 * n3) w len
+  -- Each of its planes is flat too.
+  plane_flat : (i : ℕ) → flat w (plane_at c i) ≡ true
+  unfolding flat
+  plane_flat i = cube_steps.1.1
+
+  -- The cube as a plane, of its planes as rows.
+  abbrev row : Row
+  row = flat_row_of c.first
+
+  pub cube_inside : (len : ℕ) → IsCubeInside c w len → Inside row.at row.up row.down (n1 * n2 * c.count) w len
   cube_inside len h =
       let e = cube_steps in
-      row_inside w t.at (n1 * n2) n3 len
-      (transport (λ j. Inside2 t.at w 0 (n1 * n2) (e.1.0 j) (e.0 j) n3 w len)
-      (λ i k. ((h i k).0, flat_inside w n1 n2 (place t.at t.up3 t.down3 i) t e.1.1 len (h i k).1)))
+      let g = flat_steps w c.first e.1.1 in
+      transport (λ j. Inside row.at (sym g.0 j) (sym g.1.0 j) (n1 * n2 * c.count) w len)
+      (row_inside w row.at (n1 * n2) c.count len
+      (transport (λ j. Inside2 row.at (g.0 j) (g.1.0 j) (n1 * n2) (e.1.0 j) (e.0 j) c.count w len)
+      (λ i k. ((h i k).0, flat_inside w (plane_at c i) (plane_flat i) len (h i k).1))))
 
-  pub cube_row : (f : List ℕ → List ℕ) (s : List ℕ) → row_of f w s t.at w 0 (n1 * n2 * n3) ≡ cube_of f w s t n1 n2 n3
-  unfolding plane_of cube_of
+  pub cube_row : (f : List ℕ → List ℕ) (s : List ℕ) → row_of f w s row.at row.up row.down (n1 * n2 * c.count) ≡ planes_of f w s c
+  unfolding plane_of planes_of
   cube_row f s =
       let e = cube_steps in
-      sym
-      (joined_same n3 _ _ (λ i k. sym (flat_row w n1 n2 (place t.at t.up3 t.down3 i) t e.1.1 f s))
-      ∙ (λ j. plane_of f w s t.at w 0 (n1 * n2) (e.1.0 j) (e.0 j) n3) ∙ plane_row f w s t.at (n1 * n2) n3)
+      let g = flat_steps w c.first e.1.1 in
+      (λ j. row_of f w s row.at (g.0 j) (g.1.0 j) (n1 * n2 * c.count))
+      ∙ sym
+      (joined_same c.count _ _ (λ i k. sym (flat_row w (plane_at c i) (plane_flat i) f s))
+      ∙ (λ j. plane_of f w s row.at (g.0 j) (g.1.0 j) (n1 * n2) (e.1.0 j) (e.0 j) c.count) ∙ plane_row f w s row.at (n1 * n2) c.count)
 
   -- Written as a row, at the front of d.
-  pub cube_written : (f : List ℕ → List ℕ) → ((l : List ℕ) → length l ≡ w → length (f l) ≡ w) → (s : List ℕ) → Inside3 t n1 n2 n3 w (length s) → (k : ℕ) (d q : List ℕ)
-      → k ≡ w * (n1 * n2 * n3) → q ≡ row_of f w s t.at w 0 (n1 * n2 * n3) → patched 0 k d q ≡ over (cube_of f w s t n1 n2 n3) d
+  pub cube_written : (f : List ℕ → List ℕ) → ((l : List ℕ) → length l ≡ w → length (f l) ≡ w) → (s : List ℕ) → IsCubeInside c w (length s)
+      → (k : ℕ) (d q : List ℕ) → k ≡ w * (n1 * n2 * c.count) → q ≡ row_of f w s row.at row.up row.down (n1 * n2 * c.count)
+      → q ++ drop k d ≡ over (planes_of f w s c) d
   cube_written f keeps s h k d q e g =
-      let n = n1 * n2 * n3 in
-      over_part [] q d d 0 k refl refl (ap length g ∙ length_row f w keeps s t.at w 0 n (cube_inside (length s) h) ∙ sym e)
+      let n = n1 * n2 * c.count in
+      over_part [] q d d 0 k refl refl (ap length g ∙ length_row f w keeps s row.at row.up row.down n (cube_inside (length s) h) ∙ sym e)
       ∙ ap (λ (l : List ℕ). over l d) (g ∙ cube_row f s)
 
 -- ---- Lengths

@@ -1,7 +1,6 @@
 pub mod BandLaws
 pub mod Flats
 pub mod Planes
-pub mod SlowRows
 pub mod StoredRows
 pub mod TileCopies
 pub mod TileLaws

@@ -6,7 +6,7 @@ use native.Mathlib.Omega.{arith}
 use lib.IntN.{ℤ}
 use lib.ListN.{length, get_or, take, drop}
 use Rattle.raster.specs.Element.{element_bytes}
-use Rattle.raster.specs.Strided.{Octets, place, Inside, Inside3, row_of, plane_of, cube_of, delivered_at}
+use Rattle.raster.specs.Strided.{Octets, place, Inside, Inside3, row_of, plane_of, delivered_at}
 use Rattle.raster.specs.Types.{DataType}
 use Rattle.raster.specs.declared.stride.Steps.{Steps}
 use Rattle.raster.proofs.Joined.{joined_same}
@@ -14,16 +14,16 @@ use Rattle.strides.proofs.Filling.{length-joined}
 use Rattle.strides.proofs.RowLaws.{length_element}
 use Rattle.conversion.proofs.Lengths.{length_rows}
 use Rattle.conversion.specs.Converting.{converted, Converts}
+use Rattle.conversion.specs.Plane.{rows_of}
 use Rattle.conversion.specs.declared.conversion.Conversion.{Conversion}
+use Rattle.delivery.specs.Cube.{plane_at, IsCubeInside, planes_of}
+use Rattle.delivery.specs.declared.arrays.Cube.{Cube}
 
-pub length_planes : (c : Conversion) (s : List ℕ) (t : Steps) (n1 n2 n3 : ℕ) → Inside3 t n1 n2 n3 c.width (length s)
-    → (i : ℕ) → i < n3
-    → length (plane_of (converted c) c.width s (place t.at t.up3 t.down3 i) t.up1 t.down1 n1 t.up2 t.down2 n2)
-    ≡ c.width * n1 * n2
+pub length_planes : (c : Conversion) (s : List ℕ) (a : Cube) → IsCubeInside a c.width (length s) → (i : ℕ) → i < a.count
+    → length (rows_of (converted c) c.width s (plane_at a i)) ≡ c.width * a.first.first.count * a.first.count
 unfolding plane_of
-length_planes c s t n1 n2 n3 inside i h =
-    length-joined n2 (c.width * n1) _
-    (length_rows c s (place t.at t.up3 t.down3 i) t.up1 t.down1 n1 t.up2 t.down2 n2 (inside i h).1)
+length_planes c s a inside i h =
+    length-joined a.first.count (c.width * a.first.first.count) _ (length_rows c s (plane_at a i) (inside i h).1)
 
 -- ---- Bytes of a part
 
@@ -43,6 +43,16 @@ octets_take (suc n) (b ∷ l) (h, more) = (h, octets_take n l more)
 
 -- ---- All elements
 
+-- The cube at the steps of an array.
+abbrev pub cube_at : Steps → ℕ → ℕ → ℕ → Cube
+cube_at t n1 n2 n3 =
+    record {
+      first = record { first = record { at = t.at; up = t.up1; down = t.down1; count = n1 }; up = t.up2; down = t.down2; count = n2 };
+      up = t.up3;
+      down = t.down3;
+      count = n3;
+    }
+
 module _ (t : DataType) (order : ℕ) (offset : ℤ) (asked : ℕ) (c : Conversion) (converts : Converts t order offset asked c)
     (s : List ℕ) (octets : Octets s) where
   row_delivered : (at up down n : ℕ) → Inside at up down n t.width (length s)
@@ -57,8 +67,8 @@ module _ (t : DataType) (order : ℕ) (offset : ℤ) (asked : ℕ) (c : Conversi
       (length_element t.width s p (omega arith)))
 
   pub cube_delivered : (steps : Steps) (n1 n2 n3 : ℕ) → Inside3 steps n1 n2 n3 t.width (length s)
-      → cube_of (converted c) c.width s steps n1 n2 n3 ≡ delivered_at t order offset asked s steps n1 n2 n3
-  unfolding cube_of plane_of delivered_at row_of
+      → planes_of (converted c) c.width s (cube_at steps n1 n2 n3) ≡ delivered_at t order offset asked s steps n1 n2 n3
+  unfolding planes_of plane_of delivered_at row_of
   cube_delivered steps n1 n2 n3 inside =
-      ap (λ (w : ℕ). cube_of (converted c) w s steps n1 n2 n3) converts.wide
+      ap (λ (w : ℕ). planes_of (converted c) w s (cube_at steps n1 n2 n3)) converts.wide
       ∙ joined_same n3 _ _ (λ i3 h3. joined_same n2 _ _ (λ i2 h2. row_delivered _ _ _ n1 ((inside i3 h3).1 i2 h2).1))

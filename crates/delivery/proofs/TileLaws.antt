@@ -8,10 +8,10 @@ use lib.ListN.{length, take, drop, length-append, length-take, length-drop, drop
 use lib.Seq.{take-add, take_at, drop_at, drop-drop, take-append-le, drop-append-le}
 use Rattle.scan.specs.Buffer.{over}
 use Rattle.raster.specs.Bytes.{joined}
-use Rattle.raster.specs.Strided.{patched, place, Inside, Inside2, row_of, plane_of}
-use Rattle.raster.specs.declared.stride.Steps.{Steps}
-use Rattle.raster.proofs.Joined.{joined_add, joined_list}
-use Rattle.raster.proofs.Joined.{joined_same}
+use Rattle.raster.specs.Strided.{patched, place, Inside, row_of, plane_of}
+use Rattle.conversion.specs.Plane.{IsInside}
+use Rattle.conversion.specs.declared.rows.Plane.{Plane}
+use Rattle.raster.proofs.Joined.{joined_add, joined_list, joined_same}
 use Rattle.strides.proofs.Filling.{length-joined, over_part, piece_more, pieces_done, mul_room}
 use Rattle.strides.proofs.RowLaws.{length_row}
 use Rattle.delivery.specs.Tiles.{row_at, tiled, tile_row}
@@ -120,60 +120,60 @@ module _ (at up down n w len : ℕ) (inside : Inside at up down n w len) (a b : 
 -- ---- The tiles of a band: the buffer d is filled from the left
 
 -- Row i with its first m elements delivered.
-abbrev pub begun : (List ℕ → List ℕ) → ℕ → List ℕ → ℕ → Steps → ℕ → List ℕ → ℕ → ℕ → List ℕ
-begun f w s at t n1 d m i = over (row_of f w s (place at t.up2 t.down2 i) t.up1 t.down1 m) (row_at (w * n1) i d)
+abbrev pub begun : (List ℕ → List ℕ) → ℕ → List ℕ → Plane → List ℕ → ℕ → ℕ → List ℕ
+begun f w s plane d m i = over (row_of f w s (place plane.first.at plane.up plane.down i) plane.first.up plane.first.down m) (row_at (w * plane.first.count) i d)
 
-module _ (f : List ℕ → List ℕ) (w : ℕ) (keeps : (l : List ℕ) → length l ≡ w → length (f l) ≡ w) (s : List ℕ) (at : ℕ) (t : Steps) (n1 n2 : ℕ)
-    (inside : Inside2 at t.up1 t.down1 n1 t.up2 t.down2 n2 w (length s)) where
+module _ (f : List ℕ → List ℕ) (w : ℕ) (keeps : (l : List ℕ) → length l ≡ w → length (f l) ≡ w) (s : List ℕ) (plane : Plane)
+    (inside : IsInside plane w (length s)) where
   -- The elements of a tile have their length.
-  length_tile : (m k : ℕ) → m + k ≤ n1 → (i : ℕ) → i < n2 → length (tile_row f w s at t m k i) ≡ w * k
+  length_tile : (m k : ℕ) → m + k ≤ plane.first.count → (i : ℕ) → i < plane.count → length (tile_row f w s plane m k i) ≡ w * k
   length_tile m k h i j =
-      length_row f w keeps s _ t.up1 t.down1 k
-      (inside_from (place at t.up2 t.down2 i) t.up1 t.down1 n1 w (length s) (inside i j).1 m k h)
+      length_row f w keeps s _ plane.first.up plane.first.down k
+      (inside_from (place plane.first.at plane.up plane.down i) plane.first.up plane.first.down plane.first.count w (length s) (inside i j).1 m k h)
 
-  module _ (d : List ℕ) (whole : length d ≡ w * n1 * n2) where
+  module _ (d : List ℕ) (whole : length d ≡ w * plane.first.count * plane.count) where
     abbrev rows_begun : ℕ → ℕ → List ℕ
-    rows_begun m i = begun f w s at t n1 d m i
+    rows_begun m i = begun f w s plane d m i
 
-    length_front : (m : ℕ) → m ≤ n1 → (i : ℕ) → i < n2
-        → length (row_of f w s (place at t.up2 t.down2 i) t.up1 t.down1 m) ≡ w * m
-    length_front m h i j = length_row f w keeps s (place at t.up2 t.down2 i) t.up1 t.down1 m (λ k l. (inside i j).1 k (omega arith))
+    length_front : (m : ℕ) → m ≤ plane.first.count → (i : ℕ) → i < plane.count
+        → length (row_of f w s (place plane.first.at plane.up plane.down i) plane.first.up plane.first.down m) ≡ w * m
+    length_front m h i j = length_row f w keeps s (place plane.first.at plane.up plane.down i) plane.first.up plane.first.down m (λ k l. (inside i j).1 k (omega arith))
 
-    length_begun : (m : ℕ) → m ≤ n1 → (i : ℕ) → i < n2 → length (rows_begun m i) ≡ w * n1
+    length_begun : (m : ℕ) → m ≤ plane.first.count → (i : ℕ) → i < plane.count → length (rows_begun m i) ≡ w * plane.first.count
     length_begun m h i j =
-        let e = length-row_at (w * n1) n2 i d whole j in
+        let e = length-row_at (w * plane.first.count) plane.count i d whole j in
         let g = length_front m h i j in
         let k = mul-le-mul_left w h in
-        simp (length-append, length-drop (length (row_of f w s (place at t.up2 t.down2 i) t.up1 t.down1 m)) (row_at (w * n1) i d)) (omega arith)
+        simp (length-append, length-drop (length (row_of f w s (place plane.first.at plane.up plane.down i) plane.first.up plane.first.down m)) (row_at (w * plane.first.count) i d)) (omega arith)
 
-    pub tiles_none : d ≡ joined n2 (begun f w s at t n1 d 0)
+    pub tiles_none : d ≡ joined plane.count (begun f w s plane d 0)
     unfolding row_of joined
-    tiles_none = rows_joined (w * n1) n2 d whole
+    tiles_none = rows_joined (w * plane.first.count) plane.count d whole
 
     -- A turn: the next tile is delivered.
-    pub tiles_more : (m k : ℕ) (l q : List ℕ) → m + k ≤ n1 → l ≡ joined n2 (begun f w s at t n1 d m)
-        → q ≡ tiled (w * n1) n2 (w * m) (w * k) l (tile_row f w s at t m k) → q ≡ joined n2 (begun f w s at t n1 d (m + k))
+    pub tiles_more : (m k : ℕ) (l q : List ℕ) → m + k ≤ plane.first.count → l ≡ joined plane.count (begun f w s plane d m)
+        → q ≡ tiled (w * plane.first.count) plane.count (w * m) (w * k) l (tile_row f w s plane m k) → q ≡ joined plane.count (begun f w s plane d (m + k))
     unfolding tiled
     tiles_more m k l q h e g =
         g
-        ∙ joined_same n2 _ _
+        ∙ joined_same plane.count _ _
         (λ i j.
-        let p = place at t.up2 t.down2 i in
-        over_part (row_of f w s p t.up1 t.down1 m) (tile_row f w s at t m k i) (row_at (w * n1) i d) (row_at (w * n1) i l) (w * m) (w * k)
-        (ap (row_at (w * n1) i) e ∙ row_is (w * n1) n2 (rows_begun m) (length_begun m (omega arith)) i j)
+        let p = place plane.first.at plane.up plane.down i in
+        over_part (row_of f w s p plane.first.up plane.first.down m) (tile_row f w s plane m k i) (row_at (w * plane.first.count) i d) (row_at (w * plane.first.count) i l) (w * m) (w * k)
+        (ap (row_at (w * plane.first.count) i) e ∙ row_is (w * plane.first.count) plane.count (rows_begun m) (length_begun m (omega arith)) i j)
         (length_front m (omega arith) i j) (length_tile m k h i j)
-        ∙ ap (λ (x : List ℕ). over x (row_at (w * n1) i d))
-        (sym (row_parts p t.up1 t.down1 n1 w (length s) (inside i j).1 m k h f s)))
+        ∙ ap (λ (x : List ℕ). over x (row_at (w * plane.first.count) i d))
+        (sym (row_parts p plane.first.up plane.first.down plane.first.count w (length s) (inside i j).1 m k h f s)))
 
     -- The end: all are.
-    pub tiles_done : (m : ℕ) (l : List ℕ) → m ≤ n1 → n1 ≤ m → l ≡ joined n2 (begun f w s at t n1 d m)
-        → l ≡ plane_of f w s at t.up1 t.down1 n1 t.up2 t.down2 n2
+    pub tiles_done : (m : ℕ) (l : List ℕ) → m ≤ plane.first.count → plane.first.count ≤ m → l ≡ joined plane.count (begun f w s plane d m)
+        → l ≡ plane_of f w s plane.first.at plane.first.up plane.first.down plane.first.count plane.up plane.down plane.count
     unfolding plane_of
     tiles_done m l h k e =
-        subst (λ (j : ℕ). l ≡ joined n2 (begun f w s at t n1 d j)) (le_antisymm h k) e
-        ∙ joined_same n2 _ _
+        subst (λ (j : ℕ). l ≡ joined plane.count (begun f w s plane d j)) (le_antisymm h k) e
+        ∙ joined_same plane.count _ _
         (λ i j.
-        let r = row_of f w s (place at t.up2 t.down2 i) t.up1 t.down1 n1 in
-        let b = row_at (w * n1) i d in
+        let r = row_of f w s (place plane.first.at plane.up plane.down i) plane.first.up plane.first.down plane.first.count in
+        let b = row_at (w * plane.first.count) i d in
         ap (λ (x : List ℕ). r ++ x)
-        (drop_of_length-le b {i = length r} (omega (arith, length_front n1 (omega arith) i j, length-row_at (w * n1) n2 i d whole j))) ∙ append-nil r)
+        (drop_of_length-le b {i = length r} (omega (arith, length_front plane.first.count (omega arith) i j, length-row_at (w * plane.first.count) plane.count i d whole j))) ∙ append-nil r)

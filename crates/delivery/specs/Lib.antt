@@ -1,2 +1,3 @@
+pub mod Cube
 pub mod Flat
 pub mod Tiles

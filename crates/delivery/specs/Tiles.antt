@@ -2,7 +2,7 @@
 use Rattle.std.specs.Prelude.{◌≡◌, Bool, cond, ◌&&◌, ◌⊎◌, List, ℕ, ◌*◌, ◌%◌, eqb, ltb, leb, take, drop}
 use Rattle.raster.specs.Bytes.{joined}
 use Rattle.raster.specs.Strided.{patched, place, row_of}
-use Rattle.raster.specs.declared.stride.Steps.{Steps}
+use Rattle.conversion.specs.declared.rows.Plane.{Plane}
 
 -- Row i of a buffer whose rows have r bytes.
 abbrev pub row_at : ℕ → ℕ → List ℕ → List ℕ
@@ -13,8 +13,9 @@ unfoldable pub tiled : ℕ → ℕ → ℕ → ℕ → List ℕ → (ℕ → Lis
 tiled r n o k l f = joined n (λ (i : ℕ). patched o k (row_at r i l) (f i))
 
 -- Of row i the k elements from index m on.
-abbrev pub tile_row : (List ℕ → List ℕ) → ℕ → List ℕ → ℕ → Steps → ℕ → ℕ → ℕ → List ℕ
-tile_row f w s at t m k i = row_of f w s (place (place at t.up2 t.down2 i) t.up1 t.down1 m) t.up1 t.down1 k
+abbrev pub tile_row : (List ℕ → List ℕ) → ℕ → List ℕ → Plane → ℕ → ℕ → ℕ → List ℕ
+tile_row f w s p m k i =
+    row_of f w s (place (place p.first.at p.up p.down i) p.first.up p.first.down m) p.first.up p.first.down k
 
 -- A stride that does not both rise and fall.
 abbrev pub OneWay : ℕ → ℕ → Type 0

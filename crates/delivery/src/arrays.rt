@@ -1,109 +1,132 @@
 // The elements of an array in the order of their indices.
 ghost use Rattle.std.specs.Prelude.{◌≡◌, ◌*◌, ◌^◌, ◌<◌, ◌≤◌, length};
 ghost use Rattle.scan.specs.Buffer.{over};
-ghost use Rattle.raster.specs.Strided.{Inside2, Inside3, Width, plane_of, cube_of, delivered_at};
+ghost use Rattle.raster.specs.Strided.{Inside3, Width, delivered_at};
 ghost use Rattle.raster.specs.Types.{type_of};
 ghost use Rattle.conversion.specs.Converting.{converted};
+ghost use Rattle.conversion.specs.Plane.{IsInside, FillsOut, rows_of};
 ghost use Rattle.delivery.specs.Flat.{flat, flat_cube};
+ghost use Rattle.delivery.specs.Cube.{IsCubeInside, HasRoom, plane_at, planes_of};
 
 use crate::runs::{are_runs, runs};
 use crate::tiles::{are_quicker, bands};
 use conversion::conversion::{Conversion, conversion_of};
-use conversion::rows::{row, rows};
+use conversion::rows::{Plane, row, rows};
 use raster::stride::Steps;
-use strides::places::spot;
+use strides::places::{Row, spot};
+
+// Planes at a stride: the first of them, each next one `up` bytes above, or `down` bytes below, and how many they are.
+#[derive(Clone, Copy)]
+pub struct Cube {
+    pub first: Plane,
+    pub up: usize,
+    pub down: usize,
+    pub count: usize,
+}
+
+impl Cube {
+    // The plane with index i. `w` is for the contract alone.
+    fn plane(self, w: usize, src: &[u8], i: usize) -> Plane
+        requires inside { IsCubeInside self w (length src.now) }
+        requires below { i < self.count }
+        ensures { result ≡ plane_at self i }
+    {
+        let row = self.first.first;
+        let at = spot(row.at, self.up, self.down, i, 0, src.len());
+        Plane {
+            first: Row { at, ..row },
+            ..self.first
+        }
+    }
+}
 
 // Whether the rows of a plane stand one after another.
-fn is_flat(w: usize, n1: usize, t: Steps) -> bool
-    requires { w * n1 < 2 ^ 64 }
-    ensures { result ≡ flat w n1 t }
+fn is_flat(w: usize, plane: Plane) -> bool
+    requires { w * plane.first.count < 2 ^ 64 }
+    ensures { result ≡ flat w plane }
 {
-    if t.up1 != w {
-        return false;
-    }
-    if t.down1 != 0 {
-        return false;
-    }
-    if t.down2 != 0 {
-        return false;
-    }
-    t.up2 == w * n1
+    let row = plane.first;
+    row.up == w && row.down == 0 && plane.down == 0 && plane.up == w * row.count
+}
+
+// Whether the planes of a cube stand one after another too.
+fn is_flat_cube(w: usize, cube: Cube) -> bool
+    requires { (w * cube.first.first.count < 2 ^ 64) × (w * cube.first.first.count * cube.first.count < 2 ^ 64) }
+    ensures { result ≡ flat_cube w cube }
+{
+    let plane = cube.first;
+    cube.down == 0 && cube.up == w * plane.first.count * plane.count && is_flat(w, plane)
 }
 
 // A plane: as one row, where its rows stand one after another; run by run, where its rows are delivered as they stand; by tiles,
 // where that is quicker; else row by row.
-fn plane(src: &[u8], c: Conversion, at: usize, t: Steps, n1: usize, n2: usize, out: &mut [u8])
+fn deliver_plane(src: &[u8], c: Conversion, plane: Plane, out: &mut [u8])
     requires width { Width c.width }
-    requires inside2 { Inside2 at t.up1 t.down1 n1 t.up2 t.down2 n2 c.width (length src.now) }
-    requires n1_bound { (c.width * n1 < 2 ^ 64) × (length out.old ≡ c.width * n1 * n2) }
-    ensures { out.new ≡ plane_of (converted c) c.width src.now at t.up1 t.down1 n1 t.up2 t.down2 n2 }
+    requires inside { IsInside plane c.width (length src.now) }
+    requires row_bound { c.width * plane.first.count < 2 ^ 64 }
+    requires fills { FillsOut plane c.width (length out.old) }
+    ensures { out.new ≡ rows_of (converted c) c.width src.now plane }
 {
-    let w = c.width;
-    if is_flat(w, n1, t) {
-        row(src, c, at, w, 0, n1 * n2, out);
-        return;
+    if is_flat(c.width, plane) {
+        let count = plane.first.count * plane.count;
+        row(
+            src,
+            c,
+            &Row {
+                count,
+                ..plane.first
+            },
+            out,
+        );
+    } else if are_runs(c, plane.first) {
+        runs(src, c.width, plane, out);
+    } else if are_quicker(plane) {
+        bands(src, c, plane, out);
+    } else {
+        rows(src, c, plane, out);
     }
-    if are_runs(c, t) {
-        runs(src, at, w * n1, t.up2, t.down2, n2, out);
-        return;
-    }
-    if are_quicker(t, n1) {
-        bands(src, c, at, t, n1, n2, out);
-        return;
-    }
-    rows(src, c, at, t, n1, n2, out);
 }
 
-// Whether the planes of a cube stand one after another too.
-fn is_flat_cube(w: usize, n1: usize, n2: usize, t: Steps) -> bool
-    requires { (w * n1 < 2 ^ 64) × (w * n1 * n2 < 2 ^ 64) }
-    ensures { result ≡ flat_cube w n1 n2 t }
-{
-    if t.down3 != 0 {
-        return false;
-    }
-    if t.up3 != w * n1 * n2 {
-        return false;
-    }
-    is_flat(w, n1, t)
-}
-
-// n3 planes, one after the other, at the front of `out`.
-fn planes(src: &[u8], c: Conversion, t: Steps, n1: usize, n2: usize, n3: usize, out: &mut [u8])
+// The planes of a cube, one after the other, at the front of `out`.
+fn deliver_planes(src: &[u8], c: Conversion, cube: Cube, out: &mut [u8])
     requires width { Width c.width }
-    requires inside3 { Inside3 t n1 n2 n3 c.width (length src.now) }
-    requires n1_bound { (c.width * n1 < 2 ^ 64) × (c.width * n1 * n2 * n3 ≤ length out.old) }
-    ensures { out.new ≡ over (cube_of (converted c) c.width src.now t n1 n2 n3) out.old }
+    requires inside { IsCubeInside cube c.width (length src.now) }
+    requires room { HasRoom cube c.width (length out.old) }
+    ensures { out.new ≡ over (planes_of (converted c) c.width src.now cube) out.old }
 {
-    let w = c.width;
-    let mut i = 0;
-    let mut o = 0;
-    while i < n3 {
-        let p = spot(t.at, t.up3, t.down3, i, 0, src.len());
-        let e = o + w * n1 * n2;
-        plane(src, c, p, t, n1, n2, &mut out[o..e]);
-        o = e;
-        i += 1;
+    for i in 0..cube.count {
+        let size = c.width * cube.first.first.count * cube.first.count;
+        deliver_plane(
+            src,
+            c,
+            cube.plane(c.width, src, i),
+            &mut out[size * i..size * (i + 1)],
+        );
     }
 }
 
 // A cube: as one row, where its planes stand one after another; else plane by plane.
-fn cube(src: &[u8], c: Conversion, t: Steps, n1: usize, n2: usize, n3: usize, out: &mut [u8])
+fn deliver_cube(src: &[u8], c: Conversion, cube: Cube, out: &mut [u8])
     requires width { Width c.width }
-    requires inside3 { Inside3 t n1 n2 n3 c.width (length src.now) }
-    requires n1_bound { (c.width * n1 < 2 ^ 64) × (c.width * n1 * n2 * n3 ≤ length out.old) }
-    ensures { out.new ≡ over (cube_of (converted c) c.width src.now t n1 n2 n3) out.old }
+    requires inside { IsCubeInside cube c.width (length src.now) }
+    requires room { HasRoom cube c.width (length out.old) }
+    ensures { out.new ≡ over (planes_of (converted c) c.width src.now cube) out.old }
 {
-    let w = c.width;
-    if 1 < n3 {
-        if is_flat_cube(w, n1, n2, t) {
-            let n = n1 * n2 * n3;
-            let e = w * n;
-            row(src, c, t.at, w, 0, n, &mut out[0..e]);
-            return;
-        }
+    if 1 < cube.count && is_flat_cube(c.width, cube) {
+        let plane = cube.first;
+        let count = plane.first.count * plane.count * cube.count;
+        row(
+            src,
+            c,
+            &Row {
+                count,
+                ..plane.first
+            },
+            &mut out[..c.width * count],
+        );
+    } else {
+        deliver_planes(src, c, cube, out);
     }
-    planes(src, c, t, n1, n2, n3, out);
 }
 
 // The array of the elements at the steps `t`, of the type with the code `datatype`, stored in the order `byteorder`: in the
@@ -124,6 +147,28 @@ pub fn deliver(
     requires dim1_bound { ((type_of datatype).width * dim1 < 2 ^ 64) × ((type_of datatype).width * dim1 * dim2 * dim3 ≤ length out.old) }
     ensures { out.new ≡ over (delivered_at (type_of datatype) byteorder offset asked src.now t dim1 dim2 dim3) out.old }
 {
-    let c = conversion_of(datatype, byteorder, offset, asked);
-    cube(src, c, t, dim1, dim2, dim3, out);
+    let first = Row {
+        at: t.at,
+        up: t.up1,
+        down: t.down1,
+        count: dim1,
+    };
+    let first = Plane {
+        first,
+        up: t.up2,
+        down: t.down2,
+        count: dim2,
+    };
+    let cube = Cube {
+        first,
+        up: t.up3,
+        down: t.down3,
+        count: dim3,
+    };
+    deliver_cube(
+        src,
+        conversion_of(datatype, byteorder, offset, asked),
+        cube,
+        out,
+    );
 }

@@ -1,27 +1,29 @@
--- The code of a word, with the table's words taken one after the other.
+-- The code of a word, by its place in the table.
+use Rattle.std.specs.Prelude.{option_map}
+use Rattle.std.specs.Borrow.{Bor}
+use Rattle.std.specs.List.{position, position_from}
+use Rattle.std.proofs.lemmas.Iterator.Adapters.{position_from-zero}
 use mathlib.Core.Path.{◌≡◌, refl, ap, ◌∙◌}
-use mathlib.Core.Bool.{Bool, true, false, cond}
+use mathlib.Core.Bool.{Bool}
 use mathlib.Core.List.{List, [], ◌∷◌}
-use mathlib.Core.Option.{Option, none, some}
 use Prim.Native.Nat.{ℕ, suc}
+use native.Mathlib.Numerals.{add-one}
 use Rattle.scan.specs.Byte.{same}
-use Rattle.raster.specs.Types.{code_from}
+use Rattle.scan.proofs.Cases.{by_test}
+use Rattle.raster.specs.Types.{code_from, code_of}
+use Rattle.description.specs.Answers.{contents}
 
--- The first word of a table, before what the others give.
-pub in_front : (code : ℕ) (w : List ℕ) (ws : List (List ℕ)) (v : List ℕ) {r x : Option ℕ}
-    → x ≡ cond (same v w) (some code) r → r ≡ code_from (suc code) ws v → x ≡ code_from code (w ∷ ws) v
+abbrev pub is_word : List ℕ → Bor (List ℕ) → Bool
+is_word v word = same v word.now
+
+code_from_place : (words : List (Bor (List ℕ))) (v : List ℕ) (i : ℕ)
+    → option_map suc (position_from (is_word v) i words) ≡ code_from (suc i) (contents words) v
 unfolding code_from
-in_front code w ws v e q = e ∙ ap (cond (same v w) (some code)) q
+code_from_place [] v i = refl
+code_from_place (w ∷ words) v i =
+    by_test (same v w.now) (λ e. rw e refl) (λ e. rw (e, add-one i) (code_from_place words v (suc i)))
 
--- Past its last word.
-pub past_the_end : (code : ℕ) (v : List ℕ) → none ≡ code_from code [] v
-unfolding code_from
-past_the_end code v = refl
-
--- One of two values that a test chose.
-module _ {A : Type 0} {test answer : Bool} (is : answer ≡ test) (x y : A) where
-  pub chosen : answer ≡ true → x ≡ cond test x y
-  chosen e = rw (← is, e)
-
-  pub passed_over : answer ≡ false → y ≡ cond test x y
-  passed_over e = rw (← is, e)
+-- The code is the place and 1.
+pub code_by_place : (words : List (Bor (List ℕ))) (v : List ℕ) → option_map suc (position (is_word v) words) ≡ code_of (contents words) v
+unfolding code_of
+code_by_place words v = ap (option_map suc) (position_from-zero (is_word v) words) ∙ code_from_place words v 0

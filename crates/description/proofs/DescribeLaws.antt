@@ -1,29 +1,30 @@
 -- The description of an array, check after check, on plain values.
-use mathlib.Core.Path.{◌≡◌, refl, ap, ◌∙◌}
+use Rattle.std.specs.Prelude.{Ok, Err}
+use Rattle.scan.specs.Outcome.{Outcome, refused, ◌>>=◌}
+use mathlib.Core.Path.{◌≡◌, ap, ◌∙◌}
 use mathlib.Core.Bool.{true, false}
 use mathlib.Core.List.{List}
 use Prim.Native.Nat.{ℕ, ◌*◌, ◌≤◌, ◌<◌}
 use native.Mathlib.Nat.{mul_assoc}
 use native.Mathlib.Omega.{arith}
 use borrow.Author.Tests.{le-leb, lt-leb, eq-eqb, ne_eqb}
-use lib.Dec.{eqb, leb}
-use lib.IntN.{ℤ, pos, negsuc}
+use lib.Dec.{leb}
+use lib.IntN.{ℤ, pos}
 use lib.ListN.{length, get_or}
 use Rattle.scan.specs.Byte.{ascii}
-use Rattle.scan.specs.Outcome.{Outcome, ok, failed, refused, ◌>>=◌}
 use Rattle.scan.specs.declared.Error.{Error}
 use Rattle.scan.proofs.Cases.{by_outcome}
 use Rattle.keyword.specs.Keyword.{View, view_of}
 use Rattle.keyword.specs.Trace.{Trace, trace_in}
 use Rattle.keyword.specs.Viewing.{view_at, value_bytes}
 use Rattle.keyword.specs.declared.Block.{Block}
-use Rattle.origins.specs.Fields.{Fieldwise, FieldValues, by_name, each, found, found_values}
-use Rattle.origins.specs.Origins.{origins_from, origins_in, found_origins}
+use Rattle.keyword.specs.declared.Traced.{Traced}
+use Rattle.origins.specs.Fields.{FieldValues, by_name, each, found, found_values}
+use Rattle.origins.specs.Origins.{FieldOrigins, origins_in, found_origins}
 use Rattle.origins.specs.declared.Fields.{Fields}
-use Rattle.origins.specs.declared.Origins.{Origins}
 use Rattle.raster.specs.Axis.{configurations}
 use Rattle.raster.specs.Position.{product}
-use Rattle.raster.specs.Types.{Class, unsigned, signed, float, class_number, type_of, type_words, order_words, compression_words}
+use Rattle.raster.specs.Types.{type_of, type_words, order_words, compression_words}
 use Rattle.description.specs.Answers.{dim_list}
 use Rattle.description.specs.Describe.{Values, words_of, dims_of, offset_allowed, described, description_in, description_of}
 use Rattle.description.specs.Fields.{word_field, range_field, whole_field}
@@ -40,59 +41,59 @@ use Rattle.description.proofs.DimLaws.{dims_from_none}
 -- ---- Fields 1 to 3
 
 module _ (v : FieldValues) where
-  pub bad_type : {x : Error} → failed x ≡ word_field 1 type_words 7 v.datatype → failed x ≡ words_of v
+  pub bad_type : {x : Error} → Err x ≡ word_field 1 type_words 7 v.datatype → Err x ≡ words_of v
   unfolding words_of
   bad_type e = rw (← e)
 
-  module _ {t : ℕ} (e : ok t ≡ word_field 1 type_words 7 v.datatype) where
-    pub bad_order : {x : Error} → failed x ≡ word_field 2 order_words 1 v.byteorder → failed x ≡ words_of v
+  module _ {t : ℕ} (e : Ok t ≡ word_field 1 type_words 7 v.datatype) where
+    pub bad_order : {x : Error} → Err x ≡ word_field 2 order_words 1 v.byteorder → Err x ≡ words_of v
     unfolding words_of
     bad_order f = rw (← e, ← f)
 
-    module _ {o : ℕ} (f : ok o ≡ word_field 2 order_words 1 v.byteorder) where
-      pub bad_compression : {x : Error} → failed x ≡ word_field 3 compression_words 1 v.compression → failed x ≡ words_of v
+    module _ {o : ℕ} (f : Ok o ≡ word_field 2 order_words 1 v.byteorder) where
+      pub bad_compression : {x : Error} → Err x ≡ word_field 3 compression_words 1 v.compression → Err x ≡ words_of v
       unfolding words_of
       bad_compression g = rw (← e, ← f, ← g)
 
-      pub good_words : {c : ℕ} → ok c ≡ word_field 3 compression_words 1 v.compression
-          → ok (record { datatype = t; byteorder = o; compression = c }) ≡ words_of v
+      pub good_words : {c : ℕ} → Ok c ≡ word_field 3 compression_words 1 v.compression
+          → Ok (record { datatype = t; byteorder = o; compression = c }) ≡ words_of v
       unfolding words_of
       good_words g = rw (← e, ← f, ← g)
 
 -- ---- Fields 5 to 7
 
 module _ (v : FieldValues) (most : ℕ) where
-  pub bad_configuration : {x : Error} → failed x ≡ range_field 5 most 1 v.configuration → failed x ≡ numbers_from v most
+  pub bad_configuration : {x : Error} → Err x ≡ range_field 5 most 1 v.configuration → Err x ≡ numbers_from v most
   unfolding numbers_from
   bad_configuration e = rw (← e)
 
-  module _ {c : ℕ} (e : ok c ≡ range_field 5 most 1 v.configuration) where
-    pub bad_orientation : {x : Error} → failed x ≡ range_field 6 most 1 v.orientation → failed x ≡ numbers_from v most
+  module _ {c : ℕ} (e : Ok c ≡ range_field 5 most 1 v.configuration) where
+    pub bad_orientation : {x : Error} → Err x ≡ range_field 6 most 1 v.orientation → Err x ≡ numbers_from v most
     unfolding numbers_from
     bad_orientation f = rw (← e, ← f)
 
-    module _ {o : ℕ} (f : ok o ≡ range_field 6 most 1 v.orientation) where
-      pub bad_offset : {x : Error} → failed x ≡ whole_field 7 (pos 0) v.offset → failed x ≡ numbers_from v most
+    module _ {o : ℕ} (f : Ok o ≡ range_field 6 most 1 v.orientation) where
+      pub bad_offset : {x : Error} → Err x ≡ whole_field 7 (pos 0) v.offset → Err x ≡ numbers_from v most
       unfolding numbers_from
       bad_offset g = rw (← e, ← f, ← g)
 
-      pub good_numbers : {z : ℤ} → ok z ≡ whole_field 7 (pos 0) v.offset → {y : ℤ} → y ≡ z
-          → ok (record { configuration = c; orientation = o; offset = y }) ≡ numbers_from v most
+      pub good_numbers : {z : ℤ} → Ok z ≡ whole_field 7 (pos 0) v.offset → {y : ℤ} → y ≡ z
+          → Ok (record { configuration = c; orientation = o; offset = y }) ≡ numbers_from v most
       unfolding numbers_from
       good_numbers g q = rw (← e, ← f, ← g, q)
 
-module _ (v : FieldValues) (origins : Origins) (size : ℕ) (words : Words) (dims : List ℕ) {most : ℕ} (m : most ≡ configurations (length dims)) where
-  pub bad_numbers : {x : Error} → failed x ≡ numbers_from v most → failed x ≡ numbered_array v origins size words dims
+module _ (v : FieldValues) (origins : FieldOrigins) (size : ℕ) (words : Words) (dims : List ℕ) {most : ℕ} (m : most ≡ configurations (length dims)) where
+  pub bad_numbers : {x : Error} → Err x ≡ numbers_from v most → Err x ≡ numbered_array v origins size words dims
   unfolding numbered_array
   bad_numbers e = rw (← m, ← e)
 
-  pub by_numbers : {numbers : Numbers} → ok numbers ≡ numbers_from v most → {found : Origins} → found ≡ origins → {x : Outcome Description}
+  pub by_numbers : {numbers : Numbers} → Ok numbers ≡ numbers_from v most → {found : FieldOrigins} → found ≡ origins → {x : Outcome Description}
       → x ≡ checked_array words dims numbers found size → x ≡ numbered_array v origins size words dims
   unfolding numbered_array
   by_numbers e f q = rw (← m, ← e, ← f) q
 
 -- One field after the other.
-field_by_field : (look : Values) (origins : Origins) (size : ℕ) (words : Words) (dims : List ℕ)
+field_by_field : (look : Values) (origins : FieldOrigins) (size : ℕ) (words : Words) (dims : List ℕ)
     → numbered_array (by_name look) origins size words dims
     ≡ (do
       configuration ← range_field 5 (configurations (length dims)) 1 (look (ascii "DataRasterConfiguration"))
@@ -120,7 +121,7 @@ pub small_extents : {x : Extents} (ds : List ℕ) → x ≡ extents_of ds → Sm
     → (x.dim1 ≤ dim_limit) × (x.dim2 ≤ dim_limit) × (x.dim3 ≤ dim_limit)
 small_extents ds e h = rw e (h 0, h 1, h 2)
 
-module _ (words : Words) (d : Dims) (numbers : Numbers) (origins : Origins) (size : ℕ)
+module _ (words : Words) (d : Dims) (numbers : Numbers) (origins : FieldOrigins) (size : ℕ)
     {x : Extents} (e : x ≡ extents_of (dim_list d)) {width : ℕ} (w : width ≡ (type_of words.datatype).width) where
   total : x.dim1 * x.dim2 * x.dim3 * width ≡ product (dim_list d) * (type_of words.datatype).width
   total = rw (e, w, byte_total d)
@@ -141,7 +142,7 @@ module _ (words : Words) (d : Dims) (numbers : Numbers) (origins : Origins) (siz
 
       -- The code holds the offset as z.
       pub array_described : offset_allowed (type_of words.datatype).class numbers.offset ≡ true → {z : ℤ} → z ≡ numbers.offset
-          → ok (record {
+          → Ok (record {
             datatype = words.datatype;
             byteorder = words.byteorder;
             compression = words.compression;
@@ -158,25 +159,6 @@ module _ (words : Words) (d : Dims) (numbers : Numbers) (origins : Origins) (siz
       unfolding checked_array
       array_described a q = rw (long_enough, a, e, q)
 
--- 21 is for floats alone.
-pub not_float : (c : Class) (z : ℤ) {n : ℕ} → n ≡ class_number c → (n ≡ 2 → ⊥) → true ≡ offset_allowed c z
-unfolding offset_allowed
-not_float unsigned z is h = refl
-not_float signed z is h = refl
-not_float float z is h = absurd (h is)
-
-pub float_up : (c : Class) {z : ℤ} {n k : ℕ} → n ≡ class_number c → n ≡ 2 → z ≡ pos k → eqb k 0 ≡ offset_allowed c z
-unfolding offset_allowed
-float_up unsigned is h q = absurd (omega (arith, is, h))
-float_up signed is h q = absurd (omega (arith, is, h))
-float_up float is h q = rw q
-
-pub float_down : (c : Class) {z : ℤ} {n k : ℕ} → n ≡ class_number c → n ≡ 2 → z ≡ negsuc k → false ≡ offset_allowed c z
-unfolding offset_allowed
-float_down unsigned is h q = absurd (omega (arith, is, h))
-float_down signed is h q = absurd (omega (arith, is, h))
-float_down float is h q = rw q
-
 -- ---- By what the block is
 
 module _ (s : List ℕ) (b : Block) where
@@ -185,12 +167,12 @@ module _ (s : List ℕ) (b : Block) where
   general_block h = rw (ne_eqb b.row.kind 1 h)
 
   -- The fields that were found are those of the block.
-  module _ (k : b.row.kind ≡ 1) (f : Fields) (are : found s f ≡ by_name (trace_in (view_at s b))) where
+  module _ (k : b.row.kind ≡ 1) (f : Fields Traced) (are : found s f ≡ by_name (trace_in (view_at s b))) where
     values_are : found_values s f ≡ by_name (fields_of s b)
     values_are = ap (each (λ (t : Trace). t.value)) are
 
     origins_are : found_origins f ≡ origins_in (view_at s b)
-    origins_are = ap (λ (x : Fieldwise Trace). origins_from (each (λ (t : Trace). t.origin) x)) are
+    origins_are = ap (λ (x : Fields Trace). each (λ (t : Trace). t.origin) x) are
 
     pub words_read : {o : Outcome Words} → o ≡ words_of (found_values s f) → o ≡ words_of (by_name (fields_of s b))
     words_read e = e ∙ ap words_of values_are
@@ -199,17 +181,17 @@ module _ (s : List ℕ) (b : Block) where
     dims_read e =
         dims_from_none (fields_of s b) (e ∙ ap (λ (v : FieldValues). dims_after_none (fields_of s b) v.dims) values_are)
 
-    pub bad_words : {x : Error} → failed x ≡ words_of (found_values s f) → failed x ≡ description_in (view_at s b)
+    pub bad_words : {x : Error} → Err x ≡ words_of (found_values s f) → Err x ≡ description_in (view_at s b)
     unfolding description_in view_at described
     bad_words e = rw (eq-eqb b.row.kind 1 k, ← words_read e)
 
-    module _ {words : Words} (e : ok words ≡ words_of (found_values s f)) where
-      pub bad_dims : {x : Error} → failed x ≡ dims_after_none (fields_of s b) (value_bytes s f.dims.value)
-          → failed x ≡ description_in (view_at s b)
+    module _ {words : Words} (e : Ok words ≡ words_of (found_values s f)) where
+      pub bad_dims : {x : Error} → Err x ≡ dims_after_none (fields_of s b) (value_bytes s f.dims.value)
+          → Err x ≡ description_in (view_at s b)
       unfolding description_in view_at described
       bad_dims g = rw (eq-eqb b.row.kind 1 k, ← words_read e, ← dims_read g)
 
-      pub good_dims : {dims : List ℕ} → ok dims ≡ dims_after_none (fields_of s b) (value_bytes s f.dims.value)
+      pub good_dims : {dims : List ℕ} → Ok dims ≡ dims_after_none (fields_of s b) (value_bytes s f.dims.value)
           → {x : Outcome Description}
           → x ≡ numbered_array (found_values s f) (found_origins f) b.row.size words dims → x ≡ description_in (view_at s b)
       unfolding description_in view_at described checked_array
@@ -221,10 +203,10 @@ module _ (s : List ℕ) (b : Block) where
 -- ---- By its number
 
 module _ (s : List ℕ) (block : ℕ) where
-  pub no_block : {x : Error} → failed x ≡ view_of s block → failed x ≡ description_of s block
+  pub no_block : {x : Error} → Err x ≡ view_of s block → Err x ≡ description_of s block
   unfolding description_of
   no_block e = rw (← e)
 
-  pub of_block : {v : View} → ok v ≡ view_of s block → {x : Outcome Description} → x ≡ description_in v → x ≡ description_of s block
+  pub of_block : {v : View} → Ok v ≡ view_of s block → {x : Outcome Description} → x ≡ description_in v → x ≡ description_of s block
   unfolding description_of
   of_block e q = rw (← e) q

@@ -1,9 +1,10 @@
 -- A description that is answered is valid for the size of its block's data.
+use Rattle.std.specs.Prelude.{Option, None, Some, Ok, Err}
+use Rattle.scan.specs.Outcome.{Outcome, present, require, ◌>>=◌, ◌>>◌}
 use mathlib.Core.Path.{◌≡◌, refl, sym, ap, subst}
 use mathlib.Core.Bool.{Bool, true, false, cond, not, ◌&&◌}
 use mathlib.Core.List.{List, [], ◌∷◌, ◌++◌}
 use mathlib.Core.Logic.{◌⊎◌, inl, inr}
-use mathlib.Core.Option.{Option, none, some}
 use Prim.Native.Nat.{ℕ, zero, suc, ◌+◌, ◌*◌, ◌≤◌, ◌<◌}
 use native.Mathlib.Nat.{mul-pos}
 use native.Mathlib.Omega.{arith}
@@ -12,14 +13,12 @@ use lib.Dec.{leb, eqb}
 use lib.IntN.{ℤ, pos, negsuc}
 use lib.ListN.{length, get_or, take}
 use Rattle.scan.specs.Byte.{ascii, same}
-use Rattle.scan.specs.Outcome.{Outcome, ok, failed, present, require, ◌>>=◌, ◌>>◌}
 use Rattle.scan.proofs.Cases.{none_some, ok-failed}
 use Rattle.text.specs.Number.{whole_number}
 use Rattle.keyword.specs.Keyword.{View}
 use Rattle.keyword.specs.Viewing.{value_in}
 use Rattle.origins.specs.Fields.{by_name}
-use Rattle.origins.specs.Origins.{origins_in}
-use Rattle.origins.specs.declared.Origins.{Origins}
+use Rattle.origins.specs.Origins.{FieldOrigins, origins_in}
 use Rattle.raster.specs.Axis.{configurations}
 use Rattle.raster.specs.Position.{product}
 use Rattle.raster.specs.Types.{types, type_of, type_words, order_words, compression_words, code_from, code_of}
@@ -33,60 +32,60 @@ use Rattle.description.specs.declared.words.Words.{Words}
 -- ---- Steps of a `do` block that ends in a value
 
 module _ {A B : Type 0} where
-  pub step_ok : (o : Outcome A) (go : A → Outcome B) (y : B) → o >>= go ≡ ok y → (x : A) × (o ≡ ok x) × (go x ≡ ok y)
-  step_ok (ok x) go y e = (x, refl, e)
-  step_ok (failed r) go y e = absurd (ok-failed (sym e))
+  pub step_ok : (o : Outcome A) (go : A → Outcome B) (y : B) → o >>= go ≡ Ok y → (x : A) × (o ≡ Ok x) × (go x ≡ Ok y)
+  step_ok (Ok x) go y e = (x, refl, e)
+  step_ok (Err r) go y e = absurd (ok-failed (sym e))
 
-  pub check_ok : (o : Outcome A) (rest : Outcome B) (y : B) → o >> rest ≡ ok y → (x : A) × (o ≡ ok x) × (rest ≡ ok y)
-  check_ok (ok x) rest y e = (x, refl, e)
-  check_ok (failed r) rest y e = absurd (ok-failed (sym e))
+  pub check_ok : (o : Outcome A) (rest : Outcome B) (y : B) → o >> rest ≡ Ok y → (x : A) × (o ≡ Ok x) × (rest ≡ Ok y)
+  check_ok (Ok x) rest y e = (x, refl, e)
+  check_ok (Err r) rest y e = absurd (ok-failed (sym e))
 
-pub required : (b : Bool) (code position : ℕ) (x : Unit {0}) → require b code position ≡ ok x → b ≡ true
+pub required : (b : Bool) (code position : ℕ) (x : Unit {0}) → require b code position ≡ Ok x → b ≡ true
 required true code position x e = refl
 required false code position x e = absurd (ok-failed (sym e))
 
-pub same_ok : {A : Type 0} {x y : A} → ◌≡◌ {A = Outcome A} (ok x) (ok y) → x ≡ y
+pub same_ok : {A : Type 0} {x y : A} → ◌≡◌ {A = Outcome A} (Ok x) (Ok y) → x ≡ y
 same_ok e = cc
 
 -- ---- Words
 
-code_in : (code : ℕ) (words : List (List ℕ)) (v : List ℕ) (c : ℕ) → code_from code words v ≡ some c → (code ≤ c) × (c < code + length words)
+code_in : (code : ℕ) (words : List (List ℕ)) (v : List ℕ) (c : ℕ) → code_from code words v ≡ Some c → (code ≤ c) × (c < code + length words)
 unfolding code_from
 code_in code [] v c e = absurd (none_some e)
 code_in code (w ∷ ws) v c e = at (same v w) e (code_in (suc code) ws v c)
   where
-    at : (b : Bool) → cond b (some code) (code_from (suc code) ws v) ≡ some c
-        → (code_from (suc code) ws v ≡ some c → (suc code ≤ c) × (c < suc code + length ws)) → (code ≤ c) × (c < code + suc (length ws))
+    at : (b : Bool) → cond b (Some code) (code_from (suc code) ws v) ≡ Some c
+        → (code_from (suc code) ws v ≡ Some c → (suc code ≤ c) × (c < suc code + length ws)) → (code ≤ c) × (c < code + suc (length ws))
     at true q more = let z : code ≡ c = cc in omega arith
     at false q more = let k = more q in omega arith
 
 -- A code is that of one of the words.
 word_in : (field : ℕ) (words : List (List ℕ)) (default n : ℕ) (o : Option (List ℕ)) (c : ℕ) → length words ≡ n → 1 ≤ default → default ≤ n
-    → word_field field words default o ≡ ok c → (1 ≤ c) × (c ≤ n)
+    → word_field field words default o ≡ Ok c → (1 ≤ c) × (c ≤ n)
 unfolding word_field code_of
-word_in field words default n none c e low high q = let z : default ≡ c = cc in omega arith
-word_in field words default n (some v) c e low high q = at (code_from 1 words v) refl q
+word_in field words default n None c e low high q = let z : default ≡ c = cc in omega arith
+word_in field words default n (Some v) c e low high q = at (code_from 1 words v) refl q
   where
-    at : (r : Option ℕ) → code_from 1 words v ≡ r → present r 17 field ≡ ok c → (1 ≤ c) × (c ≤ n)
-    at none p q = absurd (ok-failed (sym q))
-    at (some k) p q = let z : k ≡ c = cc in let h = code_in 1 words v k p in omega arith
+    at : (r : Option ℕ) → code_from 1 words v ≡ r → present r 17 field ≡ Ok c → (1 ≤ c) × (c ≤ n)
+    at None p q = absurd (ok-failed (sym q))
+    at (Some k) p q = let z : k ≡ c = cc in let h = code_in 1 words v k p in omega arith
 
 -- ---- Numbers
 
-range_in : (most code field : ℕ) (z : Option ℤ) (n : ℕ) → present (in_range 1 most z) code field ≡ ok n → (1 ≤ n) × (n ≤ most)
-range_in most code field none n e = absurd (ok-failed (sym e))
-range_in most code field (some (pos k)) n e = at (leb 1 k) (leb k most) refl refl e
+range_in : (most code field : ℕ) (z : Option ℤ) (n : ℕ) → present (in_range 1 most z) code field ≡ Ok n → (1 ≤ n) × (n ≤ most)
+range_in most code field None n e = absurd (ok-failed (sym e))
+range_in most code field (Some (pos k)) n e = at (leb 1 k) (leb k most) refl refl e
   where
-    at : (a b : Bool) → leb 1 k ≡ a → leb k most ≡ b → present (cond (a && b) (some k) none) code field ≡ ok n → (1 ≤ n) × (n ≤ most)
+    at : (a b : Bool) → leb 1 k ≡ a → leb k most ≡ b → present (cond (a && b) (Some k) None) code field ≡ Ok n → (1 ≤ n) × (n ≤ most)
     at true true p q r = let z : k ≡ n = cc in omega (arith, leb-true 1 k p, leb-true k most q)
     at true false p q r = absurd (ok-failed (sym r))
     at false b p q r = absurd (ok-failed (sym r))
-range_in most code field (some (negsuc k)) n e = absurd (ok-failed (sym e))
+range_in most code field (Some (negsuc k)) n e = absurd (ok-failed (sym e))
 
-field_in : (field most : ℕ) (o : Option (List ℕ)) (n : ℕ) → 1 ≤ most → range_field field most 1 o ≡ ok n → (1 ≤ n) × (n ≤ most)
+field_in : (field most : ℕ) (o : Option (List ℕ)) (n : ℕ) → 1 ≤ most → range_field field most 1 o ≡ Ok n → (1 ≤ n) × (n ≤ most)
 unfolding range_field
-field_in field most none n h e = let z : ◌≡◌ {A = ℕ} 1 n = cc in omega arith
-field_in field most (some v) n h e = range_in most 18 field (whole_number v) n e
+field_in field most None n h e = let z : ◌≡◌ {A = ℕ} 1 n = cc in omega arith
+field_in field most (Some v) n h e = range_in most 18 field (whole_number v) n e
 
 -- ---- Dims
 
@@ -94,7 +93,7 @@ abbrev Dims : List ℕ → Type 0
 Dims [] = Unit {0}
 Dims (d ∷ ds) = ((1 ≤ d) × (d ≤ dim_limit)) × Dims ds
 
-dims_in : (vs : List (List ℕ)) (ds : List ℕ) → dims_from vs ≡ ok ds → Dims ds × (length ds ≡ length vs)
+dims_in : (vs : List (List ℕ)) (ds : List ℕ) → dims_from vs ≡ Ok ds → Dims ds × (length ds ≡ length vs)
 unfolding dims_from
 dims_in [] [] e = (tt, refl)
 dims_in [] (d ∷ ds) e = let z : ◌≡◌ {A = ℕ} 0 1 = cc in absurd (omega arith)
@@ -108,8 +107,8 @@ dims_in (v ∷ vs) ds e =
 found_few : (os : List (Option (List ℕ))) → length (found_first os) ≤ length os
 unfolding found_first
 found_few [] = omega arith
-found_few (none ∷ os) = omega arith
-found_few (some v ∷ os) = let h = found_few os in omega arith
+found_few (None ∷ os) = omega arith
+found_few (Some v ∷ os) = let h = found_few os in omega arith
 
 -- The Dims of a description, by their number.
 record DimsOf (dims : List ℕ) : Type 0 where
@@ -174,12 +173,12 @@ dims_of_lem (a ∷ b ∷ c ∷ []) ((h, k), ((h2, k2), ((h3, k3), t))) few =
     }
 dims_of_lem (a ∷ b ∷ c ∷ e ∷ ds) h few = absurd (omega arith)
 
-dims_valid : (look : Values) (dims : List ℕ) → dims_of look ≡ ok dims → DimsOf dims
+dims_valid : (look : Values) (dims : List ℕ) → dims_of look ≡ Ok dims → DimsOf dims
 unfolding dims_of
 dims_valid look dims e =
     let p = step_ok (dims_from (found_first (dim_values look))) _ dims e in
     let fourth = length (found_first (dim_values look ++ (look (ascii "Dim_4") ∷ []))) in
-    let q = check_ok (require (not (eqb fourth (suc most_dims))) 19 0) (ok (or_empty p.0)) dims p.2 in
+    let q = check_ok (require (not (eqb fourth (suc most_dims))) 19 0) (Ok (or_empty p.0)) dims p.2 in
     let m = dims_in (found_first (dim_values look)) p.0 p.1 in
     let f = found_few (dim_values look) in
     subst DimsOf (same_ok q.2) (dims_of_lem p.0 m.0 (omega (arith, m.1)))
@@ -191,19 +190,19 @@ unfolding configurations
 configurations_some zero = omega arith
 configurations_some (suc n) = mul-pos {m = 2 * suc n} (omega arith) (configurations_some n)
 
-words_valid : (look : Values) (w : Words) → words_of (by_name look) ≡ ok w
+words_valid : (look : Values) (w : Words) → words_of (by_name look) ≡ Ok w
     → ((1 ≤ w.datatype) × (w.datatype ≤ 10)) × ((1 ≤ w.byteorder) × (w.byteorder ≤ 2))
 unfolding words_of type_words types order_words
 words_valid look w e =
     let p = step_ok (word_field 1 type_words 7 (look (ascii "DataType"))) _ w e in
     let q = step_ok (word_field 2 order_words 1 (look (ascii "ByteOrder"))) _ w p.2 in
     let r = step_ok (word_field 3 compression_words 1 (look (ascii "Compression")))
-    (λ (c : ℕ). ok (record { datatype = p.0; byteorder = q.0; compression = c })) w q.2 in
+    (λ (c : ℕ). Ok (record { datatype = p.0; byteorder = q.0; compression = c })) w q.2 in
     let t = word_in 1 type_words 7 10 (look (ascii "DataType")) p.0 refl (omega arith) (omega arith) p.1 in
     let o = word_in 2 order_words 1 2 (look (ascii "ByteOrder")) q.0 refl (omega arith) (omega arith) q.1 in
     subst (λ (x : Words). ((1 ≤ x.datatype) × (x.datatype ≤ 10)) × ((1 ≤ x.byteorder) × (x.byteorder ≤ 2))) (same_ok r.2) (t, o)
 
-pub described_valid : (look : Values) (origins : Origins) (size : ℕ) (d : Description) → described look origins size ≡ ok d → ValidArray d size
+pub described_valid : (look : Values) (origins : FieldOrigins) (size : ℕ) (d : Description) → described look origins size ≡ Ok d → ValidArray d size
 unfolding described
 described_valid look origins size d e =
     let p = step_ok (words_of (by_name look)) _ d e in
@@ -215,7 +214,7 @@ described_valid look origins size d e =
     let type = type_of p.0.datatype in
     let u = check_ok (require (leb (product q.0 * type.width) size) 20 0) _ d t.2 in
     let v = check_ok (require (offset_allowed type.class t.0) 21 0)
-    (ok (description_with p.0 q.0 r.0 s.0 t.0 origins)) d u.2 in
+    (Ok (description_with p.0 q.0 r.0 s.0 t.0 origins)) d u.2 in
     let words = words_valid look p.0 p.1 in
     let m = dims_valid look q.0 q.1 in
     let c = field_in 5 most (look (ascii "DataRasterConfiguration")) r.0 (configurations_some (length q.0)) r.1 in
@@ -237,6 +236,6 @@ described_valid look origins size d e =
     })
 
 -- The same of a block of a file.
-pub block_valid : (v : View) (d : Description) → description_in v ≡ ok d → ValidArray d v.row.size
+pub block_valid : (v : View) (d : Description) → description_in v ≡ Ok d → ValidArray d v.row.size
 unfolding description_in
 block_valid v d e = let p = check_ok (require (eqb v.row.kind 1) 16 0) _ d e in described_valid (value_in v) (origins_in v) v.row.size d p.2

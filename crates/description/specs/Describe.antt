@@ -1,16 +1,16 @@
 -- The description of a block's array, with errors 16 to 21: "Fields, found like any keyword, are checked in this order".
-use Rattle.std.specs.Prelude.{Bool, true, false, not, ◌||◌, List, [], ◌∷◌, ◌++◌, ℕ, suc, ◌*◌, eqb, leb, ℤ, pos, negsuc, length, get_or}
-use Rattle.std.proofs.Math.Option.{Option}
+use Rattle.std.specs.Prelude.{Bool, true, false, not, ◌||◌, List, [], ◌∷◌, ◌++◌, ℕ, suc, ◌*◌, eqb, leb, ℤ, pos, negsuc, length, get_or, Option, Ok}
+use Rattle.scan.specs.Outcome.{Outcome, require, ◌>>=◌, ◌>>◌}
 use Rattle.scan.specs.Byte.{ascii}
-use Rattle.scan.specs.Outcome.{Outcome, ok, require, ◌>>=◌, ◌>>◌}
 use Rattle.keyword.specs.Keyword.{View, view_of}
 use Rattle.keyword.specs.Viewing.{value_in}
 use Rattle.origins.specs.Fields.{FieldValues, by_name}
-use Rattle.origins.specs.Origins.{origins_in}
-use Rattle.origins.specs.declared.Origins.{Origins}
+use Rattle.origins.specs.Origins.{FieldOrigins, origins_in}
 use Rattle.raster.specs.Axis.{configurations}
 use Rattle.raster.specs.Position.{product}
-use Rattle.raster.specs.Types.{Class, unsigned, signed, float, type_of, type_words, order_words, compression_words}
+use Rattle.raster.specs.Types.{type_of, type_words, order_words, compression_words}
+use Rattle.raster.specs.declared.types.Class.{Class}
+use Rattle.raster.specs.declared.types.Class.TheVariants.{Unsigned as unsigned, Signed as signed, Float as float}
 use Rattle.description.specs.Fields.{word_field, range_field, whole_field, found_first, dims_from, or_empty}
 use Rattle.description.specs.Limits.{most_dims}
 use Rattle.description.specs.declared.Description.{Description}
@@ -29,7 +29,7 @@ unfoldable pub dims_of : Values → Outcome (List ℕ)
 dims_of look = do
   ds ← dims_from (found_first (dim_values look))
   require (not (eqb (length (found_first (dim_values look ++ (look (ascii "Dim_4") ∷ [])))) (suc most_dims))) 19 0
-  ok (or_empty ds)
+  Ok (or_empty ds)
 
 -- Fields 1 to 3, as their codes.
 unfoldable pub words_of : FieldValues → Outcome Words
@@ -37,10 +37,10 @@ words_of v = do
   datatype ← word_field 1 type_words 7 v.datatype
   byteorder ← word_field 2 order_words 1 v.byteorder
   compression ← word_field 3 compression_words 1 v.compression
-  ok (record { datatype = datatype; byteorder = byteorder; compression = compression })
+  Ok (record { datatype = datatype; byteorder = byteorder; compression = compression })
 
 -- The description with these fields. Dims past N are 1, as in 000.
-abbrev pub description_with : Words → List ℕ → ℕ → ℕ → ℤ → Origins → Description
+abbrev pub description_with : Words → List ℕ → ℕ → ℕ → ℤ → FieldOrigins → Description
 description_with words dims configuration orientation offset origins =
     record {
       datatype = words.datatype;
@@ -70,7 +70,7 @@ unfoldable pub offset_allowed : Class → ℤ → Bool
 offset_allowed class offset = not (is_float class) || is_zero offset
 
 -- By the values of the fields, their origins and the size of the data. 20: "extent shorter than the array".
-unfoldable pub described : Values → Origins → ℕ → Outcome Description
+unfoldable pub described : Values → FieldOrigins → ℕ → Outcome Description
 described look origins size = do
   words ← words_of (by_name look)
   dims ← dims_of look
@@ -79,7 +79,7 @@ described look origins size = do
   offset ← whole_field 7 (pos 0) (look (ascii "DataValueOffset"))
   require (leb (product dims * (type_of words.datatype).width) size) 20 0
   require (offset_allowed (type_of words.datatype).class offset) 21 0
-  ok (description_with words dims configuration orientation offset origins)
+  Ok (description_with words dims configuration orientation offset origins)
 
 -- Of a block of a file. 16 also where "an array [is] asked of the general block".
 unfoldable pub description_in : View → Outcome Description

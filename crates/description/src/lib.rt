@@ -9,7 +9,6 @@ pub mod ranges;
 pub mod words;
 
 use origins::Origins;
-use scan::Error;
 
 // The most elements along one index (`dim_limit`).
 pub const DIM_LIMIT: u32 = 1048576;
@@ -17,6 +16,7 @@ pub const DIM_LIMIT: u32 = 1048576;
 // The description of a block's array, with the codes of its words: the data type's number in 01's table, 1 to 10; the byte
 // order, 1 for HighByteFirst and 2 for LowByteFirst; the compression, 1 for None. There are `n` dimensions, 1 to 3; those
 // past `n` are 1. `origins` says where each field came from.
+// The codes are numbers: the definitions `description_of` and `type_of` speak of them, and the same numbers cross to C.
 #[derive(Clone, Copy)]
 pub struct Description {
     pub datatype: u8,
@@ -30,11 +30,4 @@ pub struct Description {
     pub orientation: u32,
     pub offset: i64,
     pub origins: Origins,
-}
-
-// The answer of describing a block's array.
-#[derive(Clone, Copy)]
-pub enum Described {
-    Array(Description),
-    Failed(Error),
 }

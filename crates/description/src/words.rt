@@ -1,25 +1,16 @@
 // Fields 1 to 3, DataType, ByteOrder and Compression: a word of each, as its code. An absent field takes its default; 17 has
 // the field's number as position.
-ghost use Rattle.std.specs.Prelude.{◌≡◌};
-ghost use Rattle.scan.specs.Outcome.{present};
+ghost use Rattle.std.specs.Prelude.{◌≡◌, ◌<◌, length};
 ghost use Rattle.keyword.specs.Viewing.{value_bytes};
 ghost use Rattle.origins.specs.Fields.{found_values};
-ghost use Rattle.raster.specs.Types.{type_words, order_words, compression_words};
-ghost use Rattle.description.specs.Answers.{code_option, coded_outcome, worded_outcome};
+ghost use Rattle.description.specs.Answers.{contents};
 ghost use Rattle.description.specs.Describe.{words_of};
 ghost use Rattle.description.specs.Fields.{word_field};
 
-use super::codes::{Code, compression_code, order_code, type_code};
-use keyword::{Traced, Value};
+use super::codes::{COMPRESSION_WORDS, ORDER_WORDS, TYPE_WORDS, code_of};
+use keyword::Traced;
 use origins::Fields;
 use scan::Error;
-
-// The code of a field's word.
-#[derive(Clone, Copy)]
-pub enum Coded {
-    As(u8),
-    Failed(Error),
-}
 
 // The codes of fields 1 to 3.
 #[derive(Clone, Copy)]
@@ -29,72 +20,33 @@ pub struct Words {
     pub compression: u8,
 }
 
-// Fields 1 to 3 of a block.
-#[derive(Clone, Copy)]
-pub enum Worded {
-    As(Words),
-    Failed(Error),
-}
-
-// A word that must be known.
-fn known(code: Code, field: usize) -> Coded
-    ensures { coded_outcome result ≡ present (code_option code) 17 field }
+// A field that is one of some words, as its code; `default` where it is absent. 17 at the field.
+fn word_field(
+    file: &[u8],
+    f: Traced,
+    field: usize,
+    words: &[&[u8]],
+    default: u8,
+) -> Result<u8, Error>
+    requires { length words.now < 256 }
+    ensures { result ≡ word_field field (contents words.now) default (value_bytes file.now f.value) }
 {
-    match code {
-        Code::Known(n) => Coded::As(n),
-        Code::Unknown => Coded::Failed(Error {
+    match f.value {
+        None => Ok(default),
+        Some(span) => code_of(words, scan::part(file, span)).ok_or(Error {
             code: 17,
             position: field,
         }),
     }
 }
 
-fn data_type(file: &[u8], f: Traced) -> Coded
-    ensures { coded_outcome result ≡ word_field 1 type_words 7 (value_bytes file.now f.value) }
-{
-    let value = f.value;
-    match value {
-        Value::Missing => Coded::As(7),
-        Value::At(p) => known(type_code(scan::part(file, p)), 1),
-    }
-}
-
-fn byte_order(file: &[u8], f: Traced) -> Coded
-    ensures { coded_outcome result ≡ word_field 2 order_words 1 (value_bytes file.now f.value) }
-{
-    let value = f.value;
-    match value {
-        Value::Missing => Coded::As(1),
-        Value::At(p) => known(order_code(scan::part(file, p)), 2),
-    }
-}
-
-fn compression(file: &[u8], f: Traced) -> Coded
-    ensures { coded_outcome result ≡ word_field 3 compression_words 1 (value_bytes file.now f.value) }
-{
-    let value = f.value;
-    match value {
-        Value::Missing => Coded::As(1),
-        Value::At(p) => known(compression_code(scan::part(file, p)), 3),
-    }
-}
-
 // Fields 1 to 3: 17 at 1, 2 or 3.
-pub fn words_of(file: &[u8], f: Fields) -> Worded
-    ensures { worded_outcome result ≡ words_of (found_values file.now f) }
+pub fn words_of(file: &[u8], f: Fields<Traced>) -> Result<Words, Error>
+    ensures { result ≡ words_of (found_values file.now f) }
 {
-    match data_type(file, f.datatype) {
-        Coded::Failed(e) => Worded::Failed(e),
-        Coded::As(t) => match byte_order(file, f.byteorder) {
-            Coded::Failed(e) => Worded::Failed(e),
-            Coded::As(o) => match compression(file, f.compression) {
-                Coded::Failed(e) => Worded::Failed(e),
-                Coded::As(c) => Worded::As(Words {
-                    datatype: t,
-                    byteorder: o,
-                    compression: c,
-                }),
-            },
-        },
-    }
+    Ok(Words {
+        datatype: word_field(file, f.datatype, 1, &TYPE_WORDS, 7)?,
+        byteorder: word_field(file, f.byteorder, 2, &ORDER_WORDS, 1)?,
+        compression: word_field(file, f.compression, 3, &COMPRESSION_WORDS, 1)?,
+    })
 }

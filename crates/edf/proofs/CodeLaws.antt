@@ -1,4 +1,6 @@
 -- The codes of the errors of each call are those that specs/Codes names for it.
+use Rattle.std.specs.Prelude.{Ok, Err, slice_get}
+use Rattle.scan.specs.Outcome.{Outcome, error_at, refused, present, ◌>>◌}
 use mathlib.Core.Path.{◌≡◌, refl}
 use mathlib.Core.Bool.{Bool, true, false, cond, ◌&&◌, ◌||◌}
 use mathlib.Core.List.{List, [], map}
@@ -6,11 +8,10 @@ use Prim.Native.Nat.{ℕ, suc, ◌+◌, ◌*◌, ◌≤◌}
 use native.Mathlib.Omega.{arith}
 use borrow.Author.Tests.{le-leb}
 use lib.Dec.{eqb, leb}
-use lib.ListN.{length, take, get_elem?}
+use lib.ListN.{length, take}
 use Rattle.scan.specs.Buffer.{length_written}
 use Rattle.scan.specs.Byte.{byte}
-use Rattle.scan.specs.Outcome.{Outcome, ok, failed, error_at, refused, present, ◌>>◌}
-use Rattle.scan.specs.Search.{first_from, position_of}
+use Rattle.scan.specs.Search.{first_from}
 use Rattle.scan.specs.declared.Error.{Error}
 use Rattle.text.specs.Number.{whole_number}
 use Rattle.text.specs.Text.{every, text_byte, value_byte, text_of, short_text, quoted_text, escaped, unescaped}
@@ -61,8 +62,8 @@ opened_gives : (t : ℕ → Bool) → ((c : ℕ) → 3 ≤ c → c ≤ 15 → t 
 opened_gives t h s = record { hold = λ {e} p. let b = error_bounded (error-sound s p) in h e.code b.least b.most }
 
 counted : (t : ℕ → Bool) (o : Outcome (List Row)) → Gives t o → Gives t (count_of o)
-counted t (ok rows) g = no_error (Coded t) (length rows)
-counted t (failed e) g = one_error (Coded t) e (g.hold refl)
+counted t (Ok rows) g = no_error (Coded t) (length rows)
+counted t (Err e) g = one_error (Coded t) e (g.hold refl)
 
 pub open_gives : (n : ℕ) (s : List ℕ) → Gives open_codes (count_of (opened_into n s))
 unfolding opened_into open_codes
@@ -82,12 +83,12 @@ module _ (t : ℕ → Bool) (n : ℕ) (most : 16 ≤ n) (one : t 1 ≡ true) (re
   unfolding header_at frame_at
   header_gives s start =
       let w = take (start + 65536) s in
-      steps (Coded t) (present (position_of (opening_at w start)) 3 start) _ (presence (Coded t) (position_of (opening_at w start)) 3 start (rest 3 (omega arith) (omega arith)))
-      (λ left. steps (Coded t) (present (position_of (first_from ends_body w (suc left))) 5 start) _
-      (presence (Coded t) (position_of (first_from ends_body w (suc left))) 5 start (rest 5 (omega arith) (omega arith)))
+      steps (Coded t) (present ((opening_at w start)) 3 start) _ (presence (Coded t) ((opening_at w start)) 3 start (rest 3 (omega arith) (omega arith)))
+      (λ left. steps (Coded t) (present ((first_from ends_body w (suc left))) 5 start) _
+      (presence (Coded t) ((first_from ends_body w (suc left))) 5 start (rest 5 (omega arith) (omega arith)))
       (λ right. checks (Coded t) (eqb (byte w right) 125) 4 right _ (rest 4 (omega arith) (omega arith))
-      (steps (Coded t) (present (position_of (closing_at w right)) 5 start) _
-      (presence (Coded t) (position_of (closing_at w right)) 5 start (rest 5 (omega arith) (omega arith))) (λ next. no_error (Coded t) _))))
+      (steps (Coded t) (present ((closing_at w right)) 5 start) _
+      (presence (Coded t) ((closing_at w right)) 5 start (rest 5 (omega arith) (omega arith))) (λ next. no_error (Coded t) _))))
 
   statements_give : (s : List ℕ) (start : ℕ) (h : Header) → Gives t (statements_of s start h)
   unfolding statements_of
@@ -105,9 +106,9 @@ module _ (t : ℕ → Bool) (n : ℕ) (most : 16 ≤ n) (one : t 1 ≡ true) (re
 
   general_gives : (s : List ℕ) (rows : List Row) (row : Row) → Gives t (general_entries s rows row)
   unfolding general_entries
-  general_gives s rows row = either (eqb row.kind 1 && is_general (get_elem? rows 0))
+  general_gives s rows row = either (eqb row.kind 1 && is_general (slice_get rows 0))
     where
-      either : (b : Bool) → Gives t (cond b (entries_at s 0) (ok []))
+      either : (b : Bool) → Gives t (cond b (entries_at s 0) (Ok []))
       either true = entries_give s 0
       either false = no_error (Coded t) []
 
@@ -115,7 +116,7 @@ module _ (t : ℕ → Bool) (n : ℕ) (most : 16 ≤ n) (one : t 1 ≡ true) (re
   unfolding view_of
   view-gives s block =
       steps (Coded t) (opened_file s) _ (file_gives s)
-      (λ rows. steps (Coded t) (present (get_elem? rows block) 16 0) _ (presence (Coded t) (get_elem? rows block) 16 0 (rest 16 (omega arith) most))
+      (λ rows. steps (Coded t) (present (slice_get rows block) 16 0) _ (presence (Coded t) (slice_get rows block) 16 0 (rest 16 (omega arith) most))
       (λ row. steps (Coded t) (entries_at s row.start) _ (entries_give s row.start)
       (λ own. steps (Coded t) (general_entries s rows row) _ (general_gives s rows row) (λ general. no_error (Coded t) _))))
 
@@ -210,23 +211,23 @@ module _ (s : List ℕ) (block : ℕ) where
 
 -- A check that is a step of its own, then the rest.
 after : {A B : Type 0} (t : ℕ → Bool) (o : Outcome A) (rest : Outcome B) → Gives t o → Gives t rest → Gives t (o >> rest)
-after t (ok x) rest g h = h
-after t (failed e) rest g h = one_error (Coded t) e (g.hold refl)
+after t (Ok x) rest g h = h
+after t (Err e) rest g h = one_error (Coded t) e (g.hold refl)
 
 written_gives : (t : ℕ → Bool) → t 22 ≡ true → (o : Outcome (List ℕ)) (d : List ℕ) → Gives t o → Gives t (length_written o d)
 unfolding length_written
-written_gives t h (ok w) d g = room (leb (length w) (length d))
+written_gives t h (Ok w) d g = room (leb (length w) (length d))
   where
-    room : (b : Bool) → Gives t (cond b (ok (length w)) (refused 22 0))
+    room : (b : Bool) → Gives t (cond b (Ok (length w)) (refused 22 0))
     room true = no_error (Coded t) (length w)
     room false = one_error (Coded t) (error_at 22 0) h
-written_gives t h (failed e) d g = one_error (Coded t) e (g.hold refl)
+written_gives t h (Err e) d g = one_error (Coded t) e (g.hold refl)
 
 short_gives : (t : ℕ → Bool) → t 25 ≡ true → (l : List ℕ) → Gives t (short_text l)
 unfolding short_text
 short_gives t h l = short (leb (length l) 1023)
   where
-    short : (b : Bool) → Gives t (cond b (ok l) (refused 25 0))
+    short : (b : Bool) → Gives t (cond b (Ok l) (refused 25 0))
     short true = no_error (Coded t) l
     short false = one_error (Coded t) (error_at 25 0) h
 
@@ -267,9 +268,9 @@ module _ (d : List ℕ) where
       (checks (Coded write_codes) (leb (length (file_of f title pixels)) 1073741824) 24 0 _ refl
       (after write_codes (short_text title) _ (short_gives write_codes refl title) (no_error (Coded write_codes) (file_of f title pixels)))))))
 
-  pub list_gives : (l : List ℕ) → Gives list_codes (length_written (ok l) d)
+  pub list_gives : (l : List ℕ) → Gives list_codes (length_written (Ok l) d)
   unfolding list_codes
-  list_gives l = written_gives list_codes refl (ok l) d (no_error (Coded list_codes) l)
+  list_gives l = written_gives list_codes refl (Ok l) d (no_error (Coded list_codes) l)
 
 -- ---- Code 0
 

@@ -1,11 +1,12 @@
 -- The examples that 01 marks P ("Examples both sides"), as one table under one statement, proved by computing; and a table for the real
 -- numbers of 02, No. 2, both sides of each bound.
+use Rattle.std.specs.Prelude.{Ok}
+use Rattle.scan.specs.Outcome.{refused}
 use mathlib.Core.Path.{refl}
 use mathlib.Core.List.{List, [], ◌∷◌}
 use lib.IntN.{pos, negsuc}
 use lib.Ieee.{binary64, of_bits, round, neg}
 use Rattle.scan.specs.Byte.{ascii, same}
-use Rattle.scan.specs.Outcome.{ok, refused}
 use Rattle.scan.specs.Search.{first_from, first_with}
 use Rattle.text.specs.Escapes.{letter, letters, lookup_byte, meaning, meanings}
 use Rattle.text.specs.Number.{digit, digits_from, natural, whole_number}
@@ -63,20 +64,20 @@ examples_hold =
 -- Floats by their bits.
 unfoldable pub reals : List Example
 reals =
-    real_is (ascii "-1.234e+2") (ok (Number (of_bits binary64 0xc05e_d999_9999_999a)))
-    ∷ real_is (ascii "32.5_deg") (ok (Degrees (of_bits binary64 0x4040_4000_0000_0000)))
-    ∷ real_is (ascii "-0") (ok (Number (of_bits binary64 0x8000_0000_0000_0000)))
-    ∷ real_is (ascii ".5") (ok (Number (of_bits binary64 0x3fe0_0000_0000_0000)))
-    ∷ real_is (ascii "5.") (ok (Number (of_bits binary64 0x4014_0000_0000_0000)))
-    ∷ real_is (ascii "9007199254740992") (ok (Number (of_bits binary64 0x4340_0000_0000_0000)))
+    real_is (ascii "-1.234e+2") (Ok (Number (of_bits binary64 0xc05e_d999_9999_999a)))
+    ∷ real_is (ascii "32.5_deg") (Ok (Degrees (of_bits binary64 0x4040_4000_0000_0000)))
+    ∷ real_is (ascii "-0") (Ok (Number (of_bits binary64 0x8000_0000_0000_0000)))
+    ∷ real_is (ascii ".5") (Ok (Number (of_bits binary64 0x3fe0_0000_0000_0000)))
+    ∷ real_is (ascii "5.") (Ok (Number (of_bits binary64 0x4014_0000_0000_0000)))
+    ∷ real_is (ascii "9007199254740992") (Ok (Number (of_bits binary64 0x4340_0000_0000_0000)))
     ∷ real_is (ascii "9007199254740993") (refused 27 0)
-    ∷ real_is (ascii "1e22_m") (ok (Metres (of_bits binary64 0x4480_f0cf_064d_d592)))
+    ∷ real_is (ascii "1e22_m") (Ok (Metres (of_bits binary64 0x4480_f0cf_064d_d592)))
     ∷ real_is (ascii "1e23") (refused 27 0)
-    ∷ real_is (ascii "1e-22_rad") (ok (Radians (of_bits binary64 0x3b5e_3920_1017_5ee6)))
+    ∷ real_is (ascii "1e-22_rad") (Ok (Radians (of_bits binary64 0x3b5e_3920_1017_5ee6)))
     ∷ real_is (ascii "0.1e-22") (refused 27 0)
-    ∷ real_is (ascii "0.1e23") (ok (Number (of_bits binary64 0x4480_f0cf_064d_d592)))
+    ∷ real_is (ascii "0.1e23") (Ok (Number (of_bits binary64 0x4480_f0cf_064d_d592)))
     ∷ real_is (ascii "0e23") (refused 27 0)
-    ∷ real_is (ascii "1801439850948199e1") (ok (Number (of_bits binary64 0x4350_0000_0000_0002)))
+    ∷ real_is (ascii "1801439850948199e1") (Ok (Number (of_bits binary64 0x4350_0000_0000_0002)))
     ∷ real_is (ascii "1E5") (refused 18 0)
     ∷ real_is (ascii "1_km") (refused 18 0)
     ∷ real_is (ascii "1.2.3") (refused 18 0)

@@ -13,17 +13,17 @@ use Words.*
 -- ---- A file opens exactly if it has a cut
 
 -- A call of `open` on a file of at most 1,073,741,824 bytes, with a table of at least 256 rows, whatever they hold.
-module _ {s : List ℕ} {before after : List Row} {r : Opened} (allowed : Allowed s (length before)) (call : Open s before r after) where
-  pub accepts : ((n : ℕ) × (r ≡ Blocks n)) ↔ ((blocks : List Block) × Cut s blocks)
+module _ {s : List ℕ} {before after : List Row} {r : Outcome ℕ} (allowed : Allowed s (length before)) (call : Open s before r after) where
+  pub accepts : ((n : ℕ) × (r ≡ Ok n)) ↔ ((blocks : List Block) × Cut s blocks)
   accepts = (promised call).accepted allowed
 
   -- The answer is the number of the cut's blocks, the table holds their rows in order, and all later rows are as before.
   pub gives : {blocks : List Block} (cut : Cut s blocks)
-      → (r ≡ Blocks (length blocks)) × (after ≡ cut.rows ++ drop (length cut.rows) before)
+      → (r ≡ Ok (length blocks)) × (after ≡ cut.rows ++ drop (length cut.rows) before)
   gives {blocks} cut = ((promised call).count allowed blocks cut, (promised call).rows allowed blocks cut)
 
   -- Each error is given exactly in its case.
-  pub refuses : {e : Error} → (r ≡ Failed e) ↔ FileError s e
+  pub refuses : {e : Error} → (r ≡ Err e) ↔ FileError s e
   refuses {e} = (promised call).errors allowed e
 
 -- Any two cuts of a file are equal. Every header of a cut has a parse, and any two parses of a header are equal.
@@ -44,12 +44,12 @@ every_byte {s} c = blocks.every_byte s c.partition
 -- ---- What is written reads back, for every frame, title and pixels: all types, one to three dimensions, every configuration
 
 -- A frame, title and pixels that are allowed (`Writes` lists the conditions) are written, if the buffer has room for the file.
-pub writes : {f : Frame} {title pixels file before after : List ℕ} {r : Written} → Writes f title pixels file → length file ≤ length before
+pub writes : {f : Frame} {title pixels file before after : List ℕ} {r : Outcome ℕ} → Writes f title pixels file → length file ≤ length before
     → Write f title pixels before r after → Puts file before r after
 writes w h c = with_room (written_is w) h c.writes
 
 -- A call of `write` that answered n and left `after` in its buffer.
-module _ (f : Frame) (title pixels before after : List ℕ) (n : ℕ) (call : Write f title pixels before (Length n) after) where
+module _ (f : Frame) (title pixels before after : List ℕ) (n : ℕ) (call : Write f title pixels before (Ok n) after) where
   -- The bytes written: n bytes, the file that the definition gives, of arguments that are allowed; all later bytes are as before.
   abbrev file : List ℕ
   file = take n after
@@ -57,7 +57,7 @@ module _ (f : Frame) (title pixels before after : List ℕ) (n : ℕ) (call : Wr
   pub file_length : length file ≡ n
   file_length = (wrote (written_file f title pixels) call.writes).count
 
-  pub written : written_file f title pixels ≡ ok file
+  pub written : written_file f title pixels ≡ Ok file
   written = (wrote (written_file f title pixels) call.writes).bytes
 
   pub allowed : Writes f title pixels file
@@ -75,49 +75,49 @@ module _ (f : Frame) (title pixels before after : List ℕ) (n : ℕ) (call : Wr
   one_block = writer.one_block f title pixels fits written
 
   -- `open` answers 1 and gives its row; all later rows of the table are as before.
-  pub opens : {table left : List Row} {r : Opened} → 256 ≤ length table → Open file table r left
-      → (r ≡ Blocks 1) × (left ≡ row_of f title pixels ∷ drop 1 table)
+  pub opens : {table left : List Row} {r : Outcome ℕ} → 256 ≤ length table → Open file table r left
+      → (r ≡ Ok 1) × (left ≡ row_of f title pixels ∷ drop 1 table)
   opens h c = opens_rows one_block (file_small allowed) h c
 
   -- `describe` gives the frame: type, byte order, dimensions and configuration, all with the origin own; and compression None, orientation
   -- 1 and offset 0, with the origin default.
-  pub describes : {r : Described} → Describe file 0 r → r ≡ described.Array (description_for f)
-  describes {r} c = described_by_lem r (c.answers ∙ writer.describes f title pixels fits written)
+  pub describes : {r : Outcome Description} → Describe file 0 r → r ≡ Ok (description_for f)
+  describes {r} c = (c.answers ∙ writer.describes f title pixels fits written)
 
   -- `text` gives the title.
-  pub title_reads : {room left : List ℕ} {r : Written} → length title ≤ length room → Text file 0 (ascii "Title") room r left → Puts title room r left
+  pub title_reads : {room left : List ℕ} {r : Outcome ℕ} → length title ≤ length room → Text file 0 (ascii "Title") room r left → Puts title room r left
   title_reads h c = with_room (writer.reads f title pixels fits written) h c
 
   -- `read_array` with the high byte first gives the pixels.
-  pub pixels_read : {room left : List ℕ} {r : Written} → length pixels ≤ length room → ReadArray file 0 1 room r left → Puts pixels room r left
+  pub pixels_read : {room left : List ℕ} {r : Outcome ℕ} → length pixels ≤ length room → ReadArray file 0 1 room r left → Puts pixels room r left
   pixels_read h c = with_room (writer.delivers f title pixels fits written call.octets) h c
 
   -- `read_pixel` gives the value of the pixel's bytes, at every index.
-  pub pixel_reads : {i1 i2 i3 : ℕ} {r : Sampled} → Inside (frame_dims f) i1 i2 i3 → ReadPixel file 0 i1 i2 i3 r
+  pub pixel_reads : {i1 i2 i3 : ℕ} {r : Outcome Pixel} → Inside (frame_dims f) i1 i2 i3 → ReadPixel file 0 i1 i2 i3 r
       → let bytes = pixel f pixels (position_in (frame_dims f) i1 i2 i3) in
-      r ≡ sampled.Value (pixel_of (frame_type f).class (frame_type f).width (number_of 1 bytes))
-  pixel_reads {i1} {i2} {i3} {r} h c = sampled_by_lem r (c.answers ∙ writer.samples f title pixels fits written call.octets i1 i2 i3 h)
+      r ≡ Ok (pixel_of (frame_type f).class (frame_type f).width (number_of 1 bytes))
+  pixel_reads {i1} {i2} {i3} {r} h c = (c.answers ∙ writer.samples f title pixels fits written call.octets i1 i2 i3 h)
 
   -- `list` prints one block, the row and the description.
   abbrev listed : List ℕ
   listed = count_line 1 ++ line (decimal (pos 0)) (row_columns (row_of f title pixels) ++ array_columns (description_for f))
 
-  pub lists : {room left : List ℕ} {r : Written} → length listed ≤ length room → Lists file room r left → Puts listed room r left
-  lists h c = with_room (ap ok (one_block_listing _ _ _ one_block (file_small allowed) refl (writer.describes f title pixels fits written))) h c.writes
+  pub lists : {room left : List ℕ} {r : Outcome ℕ} → length listed ≤ length room → Lists file room r left → Puts listed room r left
+  lists h c = with_room (ap Ok (one_block_listing _ _ _ one_block (file_small allowed) refl (writer.describes f title pixels fits written))) h c.writes
 
 -- ---- Texts
 
 -- 2,048 bytes are room for what `escape` writes, and 1,023 for `unescape` and `text`.
-pub escape_fits : (text : List ℕ) {value : List ℕ} → escaped text ≡ ok value → length value ≤ 2048
+pub escape_fits : (text : List ℕ) {value : List ℕ} → escaped text ≡ Ok value → length value ≤ 2048
 escape_fits = laws.escaped_fits
 
-pub unescape_fits : (value : List ℕ) {text : List ℕ} → unescaped value ≡ ok text → length text ≤ 1023
+pub unescape_fits : (value : List ℕ) {text : List ℕ} → unescaped value ≡ Ok text → length text ≤ 1023
 unescape_fits = laws.unescaped_fits
 
-pub text_fits : (s : List ℕ) (block : ℕ) (key : List ℕ) {text : List ℕ} → text_in s block key ≡ ok text → length text ≤ 1023
+pub text_fits : (s : List ℕ) (block : ℕ) (key : List ℕ) {text : List ℕ} → text_in s block key ≡ Ok text → length text ≤ 1023
 text_fits = laws.text_fits
 
 -- Text in value form reads back.
-pub text_back : (text : List ℕ) {before after : List ℕ} {n : ℕ} → Escape text before (Length n) after
-    → {room left : List ℕ} {r : Written} → length text ≤ length room → Unescape (take n after) room r left → Puts text room r left
+pub text_back : (text : List ℕ) {before after : List ℕ} {n : ℕ} → Escape text before (Ok n) after
+    → {room left : List ℕ} {r : Outcome ℕ} → length text ≤ length room → Unescape (take n after) room r left → Puts text room r left
 text_back text c h d = with_room (unescaped_back text (wrote (escaped text) c).bytes) h d

@@ -1,4 +1,6 @@
 -- The answer of `opened_into`, with the table that it asks for, keeps what opening promises by the grammar.
+use Rattle.std.specs.Prelude.{Ok, Err, ℕ}
+use Rattle.scan.specs.Outcome.{Outcome, refused}
 use mathlib.Core.Path.{◌≡◌, refl, sym, ap, ◌∙◌}
 use mathlib.Core.Logic.{◌↔◌}
 use mathlib.Core.List.{List, [], map}
@@ -6,16 +8,12 @@ use Prim.Native.Nat.{ℕ, ◌≤◌, ◌<◌}
 use native.Mathlib.Omega.{arith}
 use borrow.Author.Tests.{le-leb, lt-leb}
 use lib.ListN.{length, length-map}
-use Rattle.scan.specs.Outcome.{Outcome, ok, failed, refused}
 use Rattle.scan.specs.declared.Error.{Error}
 use Rattle.scan.proofs.Cases.{by_order, ok-failed}
-use Rattle.blocks.specs.Answers.{opened_outcome}
 use Rattle.blocks.specs.Cases.{FileError}
 use Rattle.blocks.specs.Grammar.{Block, Cut, block_of}
 use Rattle.blocks.specs.Limits.{file_limit, block_limit}
 use Rattle.blocks.specs.Opening.{opened, opened_into, count_of, table_after}
-use Rattle.blocks.specs.declared.Opened.{Opened}
-use Rattle.blocks.specs.declared.Opened.TheVariants.{Blocks, Failed}
 use Rattle.blocks.specs.declared.Row.{Row}
 use Rattle.blocks.proofs.Main.{one_partition, one_cut, one_parse, has_parse, accepts, errors, error_inside}
 use Rattle.opening.proofs.TableLaws.{over_limit, few_rows, as_opened}
@@ -24,18 +22,18 @@ use Rattle.edf.specs.Opening.{Allowed, Opens, OpensAs}
 
 -- ---- An outcome and its count
 
-pub counts_failed : (o : Outcome (List Row)) {e : Error} → count_of o ≡ failed e → o ≡ failed e
-counts_failed (ok rows) q = absurd (ok-failed q)
-counts_failed (failed x) q = cc
+pub counts_failed : (o : Outcome (List Row)) {e : Error} → count_of o ≡ Err e → o ≡ Err e
+counts_failed (Ok rows) q = absurd (ok-failed q)
+counts_failed (Err x) q = cc
 
-counts_ok : (o : Outcome (List Row)) {n : ℕ} → count_of o ≡ ok n → (rows : List Row) × (o ≡ ok rows)
-counts_ok (ok rows) q = (rows, refl)
-counts_ok (failed x) q = absurd (ok-failed (sym q))
+counts_ok : (o : Outcome (List Row)) {n : ℕ} → count_of o ≡ Ok n → (rows : List Row) × (o ≡ Ok rows)
+counts_ok (Ok rows) q = (rows, refl)
+counts_ok (Err x) q = absurd (ok-failed (sym q))
 
 -- The code of an error, or 0.
 abbrev code_in : Outcome (List Row) → ℕ
-code_in (ok rows) = 0
-code_in (failed e) = e.code
+code_in (Ok rows) = 0
+code_in (Err e) = e.code
 
 map-length : (rows : List Row) → length (map block_of rows) ≡ length rows
 map-length rows = length-map rows block_of
@@ -53,7 +51,7 @@ module _ (s : List ℕ) (room : ℕ) where
   too_few : length s ≤ file_limit → room < block_limit → opened_into room s ≡ refused 2 0
   too_few h l = few_rows s room (le-leb (length s) file_limit h) l
 
-  allowed_error : Allowed s room → {e : Error} → opened_into room s ≡ failed e → FileError s e
+  allowed_error : Allowed s room → {e : Error} → opened_into room s ≡ Err e → FileError s e
   allowed_error a q = (errors s).0 (sym (judged a) ∙ q)
 
   -- No block gives 1 or 2.
@@ -77,7 +75,7 @@ module _ (s : List ℕ) (room : ℕ) where
       (λ h. absurd (omega (arith, ap code_in (sym q ∙ too_large h))))
 
   -- Every error has a code above 0.
-  pub some_code : {e : Error} → opened_into room s ≡ failed e → 1 ≤ e.code
+  pub some_code : {e : Error} → opened_into room s ≡ Err e → 1 ≤ e.code
   some_code q =
       by_order (length s) file_limit
       (λ h. by_order block_limit room
@@ -85,23 +83,23 @@ module _ (s : List ℕ) (room : ℕ) where
       (λ l. omega (arith, ap code_in (sym q ∙ too_few h l))))
       (λ h. omega (arith, ap code_in (sym q ∙ too_large h)))
 
-  cut_opens : Allowed s room → {blocks : List Block} (c : Cut s blocks) → opened_into room s ≡ ok c.rows
+  cut_opens : Allowed s room → {blocks : List Block} (c : Cut s blocks) → opened_into room s ≡ Ok c.rows
   cut_opens a c = judged a ∙ (accepts s).1 c.partition
 
-  opens_cut : Allowed s room → {rows : List Row} → opened_into room s ≡ ok rows → Cut s (map block_of rows)
+  opens_cut : Allowed s room → {rows : List Row} → opened_into room s ≡ Ok rows → Cut s (map block_of rows)
   opens_cut a {rows} q = record { rows = rows; partition = (accepts s).0 (sym (judged a) ∙ q); are = refl }
 
   -- ---- What a call promises, by what it says of the outcome
 
   module _ {Answers : ℕ → Type 0} {Fails : Error → Type 0} {Holds : List Row → Type 0}
-      (answers : (n : ℕ) → Answers n ↔ (count_of (opened_into room s) ≡ ok n))
-      (fails : (e : Error) → Fails e ↔ (opened_into room s ≡ failed e))
-      (holds : (rows : List Row) → opened_into room s ≡ ok rows → Holds rows)
-      (keeps : (e : Error) → opened_into room s ≡ failed e → Holds []) where
+      (answers : (n : ℕ) → Answers n ↔ (count_of (opened_into room s) ≡ Ok n))
+      (fails : (e : Error) → Fails e ↔ (opened_into room s ≡ Err e))
+      (holds : (rows : List Row) → opened_into room s ≡ Ok rows → Holds rows)
+      (keeps : (e : Error) → opened_into room s ≡ Err e → Holds []) where
     counts : Allowed s room → (blocks : List Block) → Cut s blocks → Answers (length blocks)
     counts a blocks c =
         (answers (length blocks)).1
-        (ap count_of (cut_opens a c) ∙ ap ok (sym (map-length c.rows) ∙ ap length (sym c.are)))
+        (ap count_of (cut_opens a c) ∙ ap Ok (sym (map-length c.rows) ∙ ap length (sym c.are)))
 
     has_cut : Allowed s room → (n : ℕ) × Answers n → (blocks : List Block) × Cut s blocks
     has_cut a (n, q) =
@@ -125,26 +123,18 @@ module _ (s : List ℕ) (room : ℕ) where
 
 -- ---- `open`
 
-answer_blocks : (r : Opened) {n : ℕ} → opened_outcome r ≡ ok n → r ≡ Blocks n
-answer_blocks (Blocks m) q = cc
-answer_blocks (Failed e) q = absurd (ok-failed (sym q))
-
-answer_failed : (r : Opened) {e : Error} → opened_outcome r ≡ failed e → r ≡ Failed e
-answer_failed (Blocks m) q = absurd (ok-failed q)
-answer_failed (Failed e) q = cc
-
-module _ (s : List ℕ) (before : List Row) (r : Opened) (after : List Row)
-    (answers : opened_outcome r ≡ count_of (opened_into (length before) s))
+module _ (s : List ℕ) (before : List Row) (r : Outcome ℕ) (after : List Row)
+    (answers : r ≡ count_of (opened_into (length before) s))
     (leaves : after ≡ table_after (opened_into (length before) s) before) where
   pub opens_as : OpensAs s before r after
   unfolding table_after
   opens_as =
       opens s (length before)
-      (λ n. ((λ q. sym answers ∙ ap opened_outcome q), (λ q. answer_blocks r (answers ∙ q))))
-      (λ e. ((λ q. counts_failed (opened_into (length before) s) (sym answers ∙ ap opened_outcome q)), (λ q. answer_failed r (answers ∙ ap count_of q))))
+      (λ n. ((λ q. sym answers ∙ q), (λ q. answers ∙ q)))
+      (λ e. ((λ q. counts_failed (opened_into (length before) s) (sym answers ∙ q)), (λ q. answers ∙ ap count_of q)))
       (λ rows q. leaves ∙ rw q)
       (λ e q. leaves ∙ rw q)
 
 -- So every call of `open` keeps it.
-pub promised : {s : List ℕ} {before after : List Row} {r : Opened} → Open s before r after → OpensAs s before r after
+pub promised : {s : List ℕ} {before after : List Row} {r : Outcome ℕ} → Open s before r after → OpensAs s before r after
 promised {s} {before} {after} {r} c = opens_as s before r after c.answers c.leaves

@@ -1,53 +1,31 @@
--- A table whose first rows are replaced, row by row: what the loop of `open` keeps.
-use mathlib.Core.Path.{◌≡◌, refl, sym, ◌∙◌, ap}
-use mathlib.Core.List.{List, [], ◌∷◌, ◌++◌}
-use Prim.Native.Nat.{ℕ, zero, suc, ◌+◌, ◌<◌, ◌≤◌}
-use native.Mathlib.Nat.{not-suc-le-zero, le_of_suc-le-suc}
-use native.Mathlib.Numerals.{add-one}
-use lib.ListN.{length, get_or, set, take, drop}
+-- A table whose first rows are those of a plan.
+use Rattle.std.specs.Prelude.{Ok, Err}
+use Rattle.scan.specs.Outcome.{Outcome}
+use mathlib.Core.Path.{◌≡◌, refl}
+use mathlib.Core.List.{List, ◌++◌}
+use Prim.Native.Nat.{ℕ}
+use native.Mathlib.Omega.{arith}
+use lib.ListN.{length, take, drop}
 use lib.Seq.{length-take-le}
-use Rattle.scan.specs.Outcome.{Outcome, ok, failed}
-use Rattle.blocks.specs.Opening.{table_after}
+use Rattle.scan.specs.declared.Error.{Error}
+use Rattle.blocks.specs.Opening.{count_of, table_after}
 use Rattle.blocks.specs.declared.Row.{Row}
-use Rattle.opening.specs.Table.{rows_of}
-use Rattle.opening.proofs.TableLaws.{no_row}
+use Rattle.opening.specs.Core.{rows_of, IsBounded}
+use Rattle.opening.specs.Table.{Plans}
+use Rattle.opening.specs.declared.Opened.{Opened}
 
--- The table t, whose first n rows are those of rs.
-unfoldable pub over : ℕ → List Row → List Row → List Row
-over n rs t = take n rs ++ drop n t
+module _ {o : Outcome (List Row)} {n : ℕ} {r : Outcome Opened} (h : Plans o n r) (t : List Row) where
+  -- In an error the table is as it was.
+  pub left_alone : {e : Error} → r ≡ Err e → (Err e ≡ count_of o) × (t ≡ table_after o t)
+  unfolding table_after
+  left_alone {e} a = let q : Err e ≡ o = rw a at h.says in rw (← q) (refl, refl)
 
-pub over_zero : (rs t : List Row) → t ≡ over 0 rs t
-unfolding over
-over_zero rs t = refl
-
-pub length_over : (n : ℕ) (rs t : List Row) → n ≤ length rs → n ≤ length t → length (over n rs t) ≡ length t
-unfolding over
-length_over zero rs t l m = refl
-length_over (suc n) [] t l m = absurd (not-suc-le-zero l)
-length_over (suc n) (r ∷ rs) [] l m = absurd (not-suc-le-zero m)
-length_over (suc n) (r ∷ rs) (y ∷ t) l m = ap suc (length_over n rs t (le_of_suc-le-suc l) (le_of_suc-le-suc m))
-
-over_next : (n : ℕ) (rs t : List Row) → n < length rs → n < length t → set (over n rs t) n (get_or rs n no_row) ≡ over (suc n) rs t
-unfolding over
-over_next n [] t l m = absurd (not-suc-le-zero l)
-over_next n (r ∷ rs) [] l m = absurd (not-suc-le-zero m)
-over_next zero (r ∷ rs) (y ∷ t) l m = refl
-over_next (suc n) (r ∷ rs) (y ∷ t) l m = ap (λ (z : List Row). r ∷ z) (over_next n rs t (le_of_suc-le-suc l) (le_of_suc-le-suc m))
-
--- One row more is placed.
-pub over_more : (n : ℕ) (rs t : List Row) (r : Row) → n < length rs → n < length t → r ≡ get_or rs n no_row
-    → set (over n rs t) n r ≡ over (n + 1) rs t
-over_more n rs t r l m e = ap (set (over n rs t) n) e ∙ over_next n rs t l m ∙ ap (λ (k : ℕ). over k rs t) (sym (add-one n))
-
--- With the rows of an answer placed, the table is what the answer asks for.
-rows_after : (o : Outcome (List Row)) (t : List Row) → rows_of o ++ drop (length (rows_of o)) t ≡ table_after o t
-unfolding table_after
-rows_after (ok rows) t = refl
-rows_after (failed e) t = refl
-
-pub over-after : (n : ℕ) (rows t : List Row) (o : Outcome (List Row)) → n ≤ length rows → take n rows ≡ rows_of o
-    → over n rows t ≡ table_after o t
-unfolding over
-over-after n rows t o l e =
-    let k : n ≡ length (rows_of o) = sym (length-take-le n rows l) ∙ ap length e in
-    ap (λ (rs : List Row). rs ++ drop n t) e ∙ ap (λ (m : ℕ). rows_of o ++ drop m t) k ∙ rows_after o t
+  -- Else its first rows are those of the file, and the others are as they were.
+  pub placed : {p : Opened} → r ≡ Ok p → {rows : List Row} → rows ≡ take p.count p.rows
+      → (Ok p.count ≡ count_of o) × (rows ++ drop p.count t ≡ table_after o t)
+  unfolding table_after
+  placed {p} a e =
+      let q : Ok (rows_of p) ≡ o = rw a at h.says in
+      let b : IsBounded p = rw a at h.bounded in
+      let k : length (rows_of p) ≡ p.count = length-take-le p.count p.rows (omega (arith, b.0, b.1)) in
+      rw (← q, e, k) (refl, refl)

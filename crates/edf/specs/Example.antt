@@ -1,8 +1,7 @@
 -- A worked example of 01 or 02: what a definition gives, beside what the document says that it gives.
-use Rattle.std.specs.Prelude.{◌≡◌, List, [], ◌∷◌, cond, ℕ, ℤ, pos}
-use Rattle.std.proofs.Math.Option.{none, some}
-use Rattle.scan.specs.Byte.{same}
+use Rattle.std.specs.Prelude.{◌≡◌, List, [], ◌∷◌, cond, ℕ, ℤ, pos, None, Some}
 use Rattle.scan.specs.Outcome.{Outcome, refused}
+use Rattle.scan.specs.Byte.{same}
 use Rattle.text.specs.Text.{text_of, quoted_text}
 use Rattle.text.specs.Value.{value_of}
 use Rattle.blocks.specs.Opening.{opened}
@@ -12,7 +11,7 @@ use Rattle.raster.specs.Element.{element_bits}
 use Rattle.raster.specs.Types.{type_of}
 use Rattle.reals.specs.Real.{real_of}
 use Rattle.reals.specs.declared.Real.{Real}
-use Rattle.origins.specs.declared.Origins.{Origins}
+use Rattle.origins.specs.Origins.{FieldOrigins}
 use Rattle.description.specs.Describe.{described, Values}
 use Rattle.description.specs.declared.Description.{Description}
 use Rattle.array.specs.Delivery.{delivered}
@@ -25,12 +24,12 @@ pub record Field : Type 0 where
   pub value : List ℕ
 
 abbrev pub values_from : List Field → Values
-values_from [] name = none
-values_from (f ∷ fs) name = cond (same f.name name) (some f.value) (values_from fs name)
+values_from [] name = None
+values_from (f ∷ fs) name = cond (same f.name name) (Some f.value) (values_from fs name)
 
 -- An array of UnsignedByte, 3 by 2, in a configuration: as it is described, wherever its fields came from, and as it is asked of the
 -- writer.
-abbrev pub three_by_two : Origins → ℕ → Description
+abbrev pub three_by_two : FieldOrigins → ℕ → Description
 three_by_two origins configuration =
     record {
       datatype = 1;
@@ -81,10 +80,10 @@ pub data Example : Type 0 where
 -- What an example says of the definitions.
 abbrev pub Holds : Example → Type 0
 Holds (stored-as c l) =
-    (o : Origins) → (delivered (three_by_two o c) 1 l ≡ 1 ∷ 2 ∷ 3 ∷ 4 ∷ 5 ∷ 6 ∷ [])
+    (o : FieldOrigins) → (delivered (three_by_two o c) 1 l ≡ 1 ∷ 2 ∷ 3 ∷ 4 ∷ 5 ∷ 6 ∷ [])
     × (stored_pixels (frame_of (three_by_two o c)) (1 ∷ 2 ∷ 3 ∷ 4 ∷ 5 ∷ 6 ∷ []) ≡ l)
 Holds (order_is n number axes) = order_of n number ≡ axes
-Holds (fields-refused fields code position) = (o : Origins) → described (values_from fields) o 1000 ≡ refused code position
+Holds (fields-refused fields code position) = (o : FieldOrigins) → described (values_from fields) o 1000 ≡ refused code position
 Holds (offset-gives type l offset n) = element_bits (type_of type) 1 offset l ≡ n
 Holds (text_is value text) = text_of (value_of value) ≡ text
 Holds (value-form text value) = quoted_text text ≡ value

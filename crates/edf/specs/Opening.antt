@@ -1,7 +1,7 @@
 -- What opening a file into a lent table promises, stated by the grammar of a file: nothing here says how a file is read.
-use Rattle.std.specs.Prelude.{◌≡◌, ◌↔◌, ℕ, ◌≤◌, ◌<◌, length, drop}
+use Rattle.std.specs.Prelude.{◌≡◌, ◌↔◌, ℕ, ◌≤◌, ◌<◌, length, drop, Ok, Err}
+use Rattle.scan.specs.Outcome.{error_at, Outcome}
 use mathlib.Core.List.{List, [], ◌++◌, Memᴰ}
-use Rattle.scan.specs.Outcome.{error_at}
 use Rattle.scan.specs.declared.Error.{Error}
 use Rattle.header.specs.Grammar.{Parse}
 use Rattle.header.specs.declared.Header.{Header}
@@ -9,8 +9,6 @@ use Rattle.header.specs.declared.Statement.{Statement}
 use Rattle.blocks.specs.Cases.{FileError}
 use Rattle.blocks.specs.Grammar.{Block, Cut, BlockHeader}
 use Rattle.blocks.specs.Limits.{file_limit, block_limit}
-use Rattle.blocks.specs.declared.Opened.{Opened}
-use Rattle.blocks.specs.declared.Opened.TheVariants.{Blocks, Failed}
 use Rattle.blocks.specs.declared.Row.{Row}
 
 -- Neither 1, "file over 1,073,741,824 bytes", nor 2, "table under 256 rows", is due of a table of so many rows.
@@ -46,5 +44,5 @@ abbrev pub HoldsRows : List Row → List Row → List Row → Type 0
 HoldsRows before after rows = after ≡ rows ++ drop (length rows) before
 
 -- Opening the file s into a table that held `before`, whatever that is, answers r and leaves `after` in the table.
-abbrev pub OpensAs : List ℕ → List Row → Opened → List Row → Type 0
-OpensAs s before r after = Opens s (length before) (λ n. r ≡ Blocks n) (λ e. r ≡ Failed e) (HoldsRows before after)
+abbrev pub OpensAs : List ℕ → List Row → Outcome ℕ → List Row → Type 0
+OpensAs s before r after = Opens s (length before) (λ n. r ≡ Ok n) (λ e. r ≡ Err e) (HoldsRows before after)

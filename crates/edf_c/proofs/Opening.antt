@@ -1,10 +1,11 @@
 -- The call that opens a file keeps demand 3, by the equations of its answer.
+use Rattle.std.specs.Prelude.{Ok, Err}
+use Rattle.scan.specs.Outcome.{Outcome}
 use mathlib.Core.Path.{◌≡◌, sym, ap, ◌∙◌}
 use mathlib.Core.List.{List}
 use Prim.Native.Nat.{ℕ, ◌/◌}
 use native.Mathlib.Omega.{arith}
 use lib.ListN.{length}
-use Rattle.scan.specs.Outcome.{Outcome, ok, failed}
 use Rattle.scan.specs.declared.Error.{Error}
 use Rattle.scan.proofs.Cases.{by_outcome}
 use Rattle.blocks.specs.Opening.{opened_into, count_of}
@@ -21,31 +22,31 @@ module _ (s before after : List ℕ) (v p code count position : ℕ)
   outcome = opened_into (length before / 7) s
 
   -- What the numbers are, by the outcome.
-  opened_numbers : {rows : List Row} → outcome ≡ ok rows → (code ≡ 0) × (count ≡ length rows)
+  opened_numbers : {rows : List Row} → outcome ≡ Ok rows → (code ≡ 0) × (count ≡ length rows)
   opened_numbers q = (rw q at h.0, rw q at h.1.0)
 
-  failed_numbers : {e : Error} → outcome ≡ failed e → (code ≡ e.code) × (position ≡ e.position)
+  failed_numbers : {e : Error} → outcome ≡ Err e → (code ≡ e.code) × (position ≡ e.position)
   failed_numbers q = (rw q at h.0, rw q at h.1.1.0)
 
-  answered : (n : ℕ) → (code ≡ 0) × (count ≡ n) → count_of outcome ≡ ok n
+  answered : (n : ℕ) → (code ≡ 0) × (count ≡ n) → count_of outcome ≡ Ok n
   answered n a =
       by_outcome outcome
-      (λ rows q. ap count_of q ∙ ap ok (sym (opened_numbers q).1 ∙ a.1))
+      (λ rows q. ap count_of q ∙ ap Ok (sym (opened_numbers q).1 ∙ a.1))
       (λ e q. absurd (omega (arith, some_code s (length before / 7) q, (failed_numbers q).0, a.0)))
 
-  answers : (n : ℕ) → count_of outcome ≡ ok n → (code ≡ 0) × (count ≡ n)
+  answers : (n : ℕ) → count_of outcome ≡ Ok n → (code ≡ 0) × (count ≡ n)
   answers n q = (rw q at h.0, rw q at h.1.0)
 
-  refused : (e : Error) → (code ≡ 0 → ⊥) × ((code ≡ e.code) × (position ≡ e.position)) → outcome ≡ failed e
+  refused : (e : Error) → (code ≡ 0 → ⊥) × ((code ≡ e.code) × (position ≡ e.position)) → outcome ≡ Err e
   refused e a =
       by_outcome outcome
       (λ rows q. absurd (a.0 (opened_numbers q).0))
       (λ x q. let f = failed_numbers q in
       let c : x.code ≡ e.code = sym f.0 ∙ a.1.0 in
       let d : x.position ≡ e.position = sym f.1 ∙ a.1.1 in
-      q ∙ (λ i. failed (record { code = c i; position = d i })))
+      q ∙ (λ i. Err (record { code = c i; position = d i })))
 
-  refuses : (e : Error) → outcome ≡ failed e → (code ≡ 0 → ⊥) × ((code ≡ e.code) × (position ≡ e.position))
+  refuses : (e : Error) → outcome ≡ Err e → (code ≡ 0 → ⊥) × ((code ≡ e.code) × (position ≡ e.position))
   refuses e q =
       let f = failed_numbers q in
       ((λ z. omega (arith, some_code s (length before / 7) q, f.0)), f)

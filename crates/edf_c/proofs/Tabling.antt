@@ -1,25 +1,21 @@
 -- What the call that opens a file answers, from the plan behind it.
-use mathlib.Core.Path.{◌≡◌, refl, sym, ap, ◌∙◌}
+use Rattle.std.specs.Prelude.{Ok, Err}
+use Rattle.scan.specs.Outcome.{Outcome}
+use mathlib.Core.Path.{◌≡◌, refl, sym}
 use mathlib.Core.List.{List}
 use Prim.Native.Nat.{ℕ}
-use lib.ListN.{take}
+use native.Mathlib.Omega.{arith}
+use lib.ListN.{length}
+use lib.Seq.{length-take-le}
 use Rattle.scan.specs.Buffer.{over}
-use Rattle.scan.specs.Outcome.{Outcome, ok, failed}
 use Rattle.scan.specs.declared.Error.{Error}
-use Rattle.blocks.specs.Answers.{opened_outcome}
 use Rattle.blocks.specs.Opening.{count_of}
-use Rattle.blocks.specs.declared.Opened.TheVariants.{Blocks, Failed}
 use Rattle.blocks.specs.declared.Row.{Row}
-use Rattle.opening.specs.Table.{rows_of, Plans}
-use Rattle.opening.specs.declared.Opening.{Opening}
+use Rattle.opening.specs.Core.{rows_of, IsBounded}
+use Rattle.opening.specs.Table.{Plans}
+use Rattle.opening.specs.declared.Opened.{Opened}
 use Rattle.records.specs.Table.{all_numbers, numbers_after}
 use Rattle.edf_c.specs.Answers.{code_of, value_after, position_after}
-use Rattle.edf_c.proofs.Answering.{Answers, succeeds, fails}
-
-rows_after : (o : Outcome (List Row)) (d : List ℕ) → over (all_numbers (rows_of o)) d ≡ numbers_after o d
-unfolding all_numbers
-rows_after (ok rows) d = refl
-rows_after (failed e) d = refl
 
 -- The code r, the number w of blocks, the position q and the lent numbers are those of the outcome o.
 abbrev pub OpenedAs : Outcome (List Row) → List ℕ → ℕ → ℕ → ℕ → ℕ → ℕ → List ℕ → Type 0
@@ -27,18 +23,16 @@ OpenedAs o before v p r w q after =
     (r ≡ code_of (count_of o))
     × ((w ≡ value_after (count_of o) v) × ((q ≡ position_after (count_of o) p) × (after ≡ numbers_after o before)))
 
-module _ (o : Outcome (List Row)) (before after : List ℕ) (v p : ℕ) {n : ℕ} {plan : Opening} (h : Plans o n plan)
-    (laid : after ≡ over (all_numbers (take plan.count plan.rows)) before) where
-  placed : after ≡ numbers_after o before
-  placed = laid ∙ ap (λ (rows : List Row). over (all_numbers rows) before) h.places ∙ rows_after o before
+module _ {o : Outcome (List Row)} {n : ℕ} {r : Outcome Opened} (h : Plans o n r) (before : List ℕ) (v p : ℕ) where
+  pub opened_rows : {x : Opened} → r ≡ Ok x → {after : List ℕ} → after ≡ over (all_numbers (rows_of x)) before
+      → OpenedAs o before v p 0 x.count p after
+  unfolding all_numbers
+  opened_rows {x} a e =
+      let q : Ok (rows_of x) ≡ o = rw a at h.says in
+      let b : IsBounded x = rw a at h.bounded in
+      let k : length (rows_of x) ≡ x.count = length-take-le x.count x.rows (omega (arith, b.0, b.1)) in
+      rw (← q, e) (refl, (sym k, (refl, refl)))
 
-  pub opens : {k : ℕ} → plan.answer ≡ Blocks k → OpenedAs o before v p 0 k p after
-  opens {k} q =
-      let a : Answers (count_of o) v p 0 k p = succeeds (count_of o) v p (sym (ap opened_outcome q) ∙ h.answers) in
-      (a.0, (a.1.0, (a.1.1, placed)))
-
-  pub opens_none : {e : Error} → plan.answer ≡ Failed e → OpenedAs o before v p e.code v e.position after
-  opens_none {e} q =
-      let a : Answers (count_of o) v p e.code v e.position =
-      fails (count_of o) v p (sym (ap opened_outcome q) ∙ h.answers) in
-      (a.0, (a.1.0, (a.1.1, placed)))
+  pub not_opened : {e : Error} → r ≡ Err e → OpenedAs o before v p e.code v e.position before
+  unfolding all_numbers
+  not_opened a = let q = rw a at h.says in rw (← q) (refl, (refl, (refl, refl)))

@@ -1,6 +1,6 @@
 -- One pixel as numbers that the caller lends: its class, and a number for each class.
-use Rattle.std.specs.Prelude.{ℕ, Float, ℤ}
-use Rattle.scan.specs.Outcome.{Outcome, ok, failed}
+use Rattle.std.specs.Prelude.{ℕ, Float, ℤ, Ok, Err}
+use Rattle.scan.specs.Outcome.{Outcome}
 use Rattle.raster.specs.declared.Pixel.{Pixel}
 use Rattle.raster.specs.declared.Pixel.TheVariants.{Unsigned, Signed, Float32, Float64}
 
@@ -25,5 +25,5 @@ with_pixel (Float64 x) s = sample_of 4 s.unsigned s.signed s.float32 x
 
 -- In an error all of them are what they were.
 abbrev pub sample_after : Outcome Pixel → Sample → Sample
-sample_after (ok p) s = with_pixel p s
-sample_after (failed e) s = s
+sample_after (Ok p) s = with_pixel p s
+sample_after (Err e) s = s

@@ -1,7 +1,6 @@
 -- A stored array as numbers that the caller lends.
-use Rattle.std.specs.Prelude.{◌≡◌, Bool, true, false, List, ℕ}
+use Rattle.std.specs.Prelude.{◌≡◌, Bool, true, false, List, ℕ, Ok}
 use Rattle.scan.specs.Byte.{part_of}
-use Rattle.scan.specs.Outcome.{ok}
 use Rattle.scan.specs.declared.Span.{Span}
 use Rattle.array.specs.Delivery.{array_in}
 use Rattle.stored.specs.declared.StoredArray.{StoredArray}
@@ -26,4 +25,4 @@ stored_numbers a = stored_of (description_numbers a.description) a.span (flag a.
 
 -- In success, and where the flag is 1, the part of the file at the span is the array delivered.
 abbrev pub DeliveredAt : List ℕ → ℕ → ℕ → ℕ → Span → ℕ → Type 0
-DeliveredAt s block order code p delivered = code ≡ 0 → delivered ≡ 1 → array_in s block order ≡ ok (part_of s p)
+DeliveredAt s block order code p delivered = code ≡ 0 → delivered ≡ 1 → array_in s block order ≡ Ok (part_of s p)

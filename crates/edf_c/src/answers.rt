@@ -1,23 +1,29 @@
-// The answer of a call that writes into a lent buffer, as a code and lent numbers.
+// The answer of a call, as a code and lent rooms.
 ghost use Rattle.std.specs.Prelude.{◌≡◌};
-ghost use Rattle.text.specs.Answers.{written_outcome};
 ghost use Rattle.edf_c.specs.Answers.{code_of, value_after, position_after};
 
-use text::Written;
+use scan::Error;
 
-pub fn put_written(answer: Written, written: &mut usize, position: &mut usize) -> u8
-    ensures value { result ≡ code_of (written_outcome answer) }
-    ensures written_after { written.new ≡ value_after (written_outcome answer) written.old }
-    ensures position_after { position.new ≡ position_after (written_outcome answer) position.old }
+// An error: its code, and its position in the room for it.
+pub fn put_error(e: Error, position: &mut usize) -> u8
+    ensures code { result ≡ e.code }
+    ensures position_after { position.new ≡ e.position }
+{
+    *position = e.position;
+    e.code
+}
+
+// An answer: 0 with the value in the room for it, or the error.
+pub fn put<T: Copy>(answer: Result<T, Error>, room: &mut T, position: &mut usize) -> u8
+    ensures code { result ≡ code_of answer }
+    ensures room_after { room.new ≡ value_after answer room.old }
+    ensures position_after { position.new ≡ position_after answer position.old }
 {
     match answer {
-        Written::Length(n) => {
-            *written = n;
+        Ok(value) => {
+            *room = value;
             0
         }
-        Written::Failed(e) => {
-            *position = e.position;
-            e.code
-        }
+        Err(e) => put_error(e, position),
     }
 }

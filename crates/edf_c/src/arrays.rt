@@ -5,17 +5,15 @@ ghost use Rattle.description.specs.Describe.{description_of};
 ghost use Rattle.array.specs.Delivery.{array_in, pixel_in};
 ghost use Rattle.stored.specs.Stored.{stored_array};
 ghost use Rattle.records.specs.Numbers.{description_numbers};
-ghost use Rattle.edf_c.specs.Answers.{code_of, value_after, position_after, mapped};
+ghost use Rattle.scan.specs.Outcome.{mapped};
+ghost use Rattle.edf_c.specs.Answers.{code_of, value_after, position_after};
 ghost use Rattle.edf_c.specs.Fields.{span_of};
 ghost use Rattle.edf_c.specs.Samples.{sample_of, sample_after};
 ghost use Rattle.edf_c.specs.Stored.{flag, stored_of, stored_numbers, DeliveredAt};
 
-use crate::answers::put_written;
-use array::Sampled;
-use description::Described;
+use crate::answers::{put, put_error};
 use raster::Pixel;
 use records::numbers::{DESCRIPTION, description_numbers};
-use stored::Stored;
 
 // The description of a block's array, a number for each field, then one for each field's origin: `edf::describe`.
 #[unsafe(no_mangle)]
@@ -29,16 +27,8 @@ pub extern "C" fn edf_describe(
     ensures description_after { description.new ≡ value_after (mapped description_numbers (description_of file.now block)) description.old }
     ensures position_after { position.new ≡ position_after (description_of file.now block) position.old }
 {
-    match edf::describe(file, block) {
-        Described::Array(d) => {
-            *description = description_numbers(d);
-            0
-        }
-        Described::Failed(e) => {
-            *position = e.position;
-            e.code
-        }
-    }
+    let answer = edf::describe(file, block).map(description_numbers);
+    put(answer, description, position)
 }
 
 // The array of a block in a byte order, at the front of the lent buffer: `edf::read_array`.
@@ -57,14 +47,7 @@ pub extern "C" fn edf_read_array(
     ensures out_after { out.new ≡ buffer_after (array_in file.now block order) out.old }
 {
     let answer = edf::read_array(file, block, order, out);
-    put_written(answer, written, position)
-}
-
-// A flag as a number.
-fn flag_of(b: bool) -> u8
-    ensures { result ≡ flag b }
-{
-    if b { 1 } else { 0 }
+    put(answer, written, position)
 }
 
 // The array of a block as it is stored: `edf::stored_array`. The numbers of its description, its span, and 1 or 0 for
@@ -86,19 +69,14 @@ pub extern "C" fn edf_stored_array(
     ensures delivered_at { DeliveredAt file.now block order result (span_of start.new size.new) delivered.new }
 {
     match edf::stored_array(file, block, order) {
-        Stored::Array(a) => {
-            let d = a.description;
-            let place = a.span;
-            *description = description_numbers(d);
-            *start = place.offset;
-            *size = place.length;
-            *delivered = flag_of(a.delivered);
+        Ok(a) => {
+            *description = description_numbers(a.description);
+            *start = a.span.offset;
+            *size = a.span.length;
+            *delivered = u8::from(a.delivered);
             0
         }
-        Stored::Failed(e) => {
-            *position = e.position;
-            e.code
-        }
+        Err(e) => put_error(e, position),
     }
 }
 
@@ -122,31 +100,26 @@ pub extern "C" fn edf_read_pixel(
     ensures position_after { position.new ≡ position_after (pixel_in file.now block i1 i2 i3) position.old }
 {
     match edf::read_pixel(file, block, i1, i2, i3) {
-        Sampled::Value(p) => match p {
-            Pixel::Unsigned(n) => {
-                *class = 1;
-                *unsigned = n;
-                0
-            }
-            Pixel::Signed(z) => {
-                *class = 2;
-                *signed = z;
-                0
-            }
-            Pixel::Float32(x) => {
-                *class = 3;
-                *float32 = x;
-                0
-            }
-            Pixel::Float64(y) => {
-                *class = 4;
-                *float64 = y;
-                0
-            }
-        },
-        Sampled::Failed(e) => {
-            *position = e.position;
-            e.code
+        Ok(Pixel::Unsigned(n)) => {
+            *class = 1;
+            *unsigned = n;
+            0
         }
+        Ok(Pixel::Signed(z)) => {
+            *class = 2;
+            *signed = z;
+            0
+        }
+        Ok(Pixel::Float32(x)) => {
+            *class = 3;
+            *float32 = x;
+            0
+        }
+        Ok(Pixel::Float64(y)) => {
+            *class = 4;
+            *float64 = y;
+            0
+        }
+        Err(e) => put_error(e, position),
     }
 }

@@ -2,7 +2,6 @@
 ghost use Rattle.std.specs.Prelude.{◌≡◌, ◌/◌, length};
 ghost use Rattle.scan.specs.Buffer.{length_written, buffer_after};
 ghost use Rattle.scan.specs.Byte.{part_of};
-ghost use Rattle.scan.specs.Outcome.{ok};
 ghost use Rattle.blocks.specs.Opening.{opened_into, count_of};
 ghost use Rattle.listing.specs.Listing.{listing, FitsListing};
 ghost use Rattle.records.specs.Table.{numbers_after};
@@ -10,8 +9,7 @@ ghost use Rattle.edf_c.specs.Answers.{code_of, value_after, position_after};
 ghost use Rattle.edf_c.specs.Fields.{span_of};
 ghost use Rattle.edf_c.specs.Opening.{OpensNumbers};
 
-use crate::answers::put_written;
-use blocks::Opened;
+use crate::answers::{put, put_error};
 use records::numbers::ROW;
 use scan::Span;
 
@@ -30,18 +28,13 @@ pub extern "C" fn edf_open(
     ensures rows_after { rows.new ≡ numbers_after (opened_into (length rows.old / 7) file.now) rows.old }
     ensures opens_numbers { OpensNumbers file.now rows.old result count.new position.new rows.new }
 {
-    let p = opening::table::planned(file, rows.len() / ROW);
-    let answer = p.answer;
-    records::table::put_rows(rows, p);
-    match answer {
-        Opened::Blocks(n) => {
-            *count = n;
+    match opening::table::planned(file, rows.len() / ROW) {
+        Ok(opened) => {
+            records::table::put_rows(rows, &opened.rows[..opened.count]);
+            *count = opened.count;
             0
         }
-        Opened::Failed(e) => {
-            *position = e.position;
-            e.code
-        }
+        Err(e) => put_error(e, position),
     }
 }
 
@@ -53,13 +46,13 @@ pub extern "C" fn edf_list(
     written: &mut usize,
     position: &mut usize,
 ) -> u8
-    ensures value { (result ≡ code_of (length_written (ok (listing file.now)) out.old)) × FitsListing file.now }
-    ensures written_after { written.new ≡ value_after (length_written (ok (listing file.now)) out.old) written.old }
-    ensures position_after { position.new ≡ position_after (length_written (ok (listing file.now)) out.old) position.old }
-    ensures out_after { out.new ≡ buffer_after (ok (listing file.now)) out.old }
+    ensures value { (result ≡ code_of (length_written (Ok (listing file.now)) out.old)) × FitsListing file.now }
+    ensures written_after { written.new ≡ value_after (length_written (Ok (listing file.now)) out.old) written.old }
+    ensures position_after { position.new ≡ position_after (length_written (Ok (listing file.now)) out.old) position.old }
+    ensures out_after { out.new ≡ buffer_after (Ok (listing file.now)) out.old }
 {
     let answer = edf::list(file, out);
-    put_written(answer, written, position)
+    put(answer, written, position)
 }
 
 // How long the part of the file at a span is: `edf::part`, which starts at the offset. 0 where the span does not lie inside.
@@ -67,10 +60,9 @@ pub extern "C" fn edf_list(
 pub extern "C" fn edf_part(file: &[u8], offset: usize, size: usize) -> usize
     ensures { result ≡ length (part_of file.now (span_of offset size)) }
 {
-    let p = Span {
-        offset: offset,
+    let span = Span {
+        offset,
         length: size,
     };
-    let bytes = edf::part(file, p);
-    bytes.len()
+    edf::part(file, span).len()
 }

@@ -4,13 +4,13 @@ ghost use Rattle.scan.specs.Buffer.{length_written, buffer_after};
 ghost use Rattle.scan.specs.Byte.{part_of};
 ghost use Rattle.keyword.specs.Keyword.{found, value_found, whole_number_of, text_in};
 ghost use Rattle.quantities.specs.Real.{real_in};
-ghost use Rattle.edf_c.specs.Answers.{code_of, value_after, position_after, with_value, mapped};
+ghost use Rattle.scan.specs.Outcome.{mapped};
+ghost use Rattle.edf_c.specs.Answers.{code_of, value_after, position_after, with_value};
 ghost use Rattle.edf_c.specs.Fields.{span_of};
 ghost use Rattle.edf_c.specs.Reals.{unit_and_float, real_numbers};
 
-use crate::answers::put_written;
-use keyword::{Located, Number};
-use reals::{Measured, measures};
+use crate::answers::{put, put_error};
+use reals::measures;
 
 // Where the value of a keyword of a block stands in the file, by its offset and its length: `edf::find`. The bytes there are the
 // value.
@@ -29,15 +29,12 @@ pub extern "C" fn edf_find(
     ensures key_value { value_found file.now block key.now ≡ with_value (found file.now block key.now) (part_of file.now (span_of offset.new size.new)) }
 {
     match edf::find(file, block, key) {
-        Located::At(p) => {
+        Ok(p) => {
             *offset = p.offset;
             *size = p.length;
             0
         }
-        Located::Failed(e) => {
-            *position = e.position;
-            e.code
-        }
+        Err(e) => put_error(e, position),
     }
 }
 
@@ -57,7 +54,7 @@ pub extern "C" fn edf_text(
     ensures out_after { out.new ≡ buffer_after (text_in file.now block key.now) out.old }
 {
     let answer = edf::text(file, block, key, out);
-    put_written(answer, written, position)
+    put(answer, written, position)
 }
 
 // The value of a keyword of a block as a whole number: `edf::whole_number`.
@@ -73,16 +70,7 @@ pub extern "C" fn edf_whole_number(
     ensures value_after { value.new ≡ value_after (whole_number_of file.now block key.now) value.old }
     ensures position_after { position.new ≡ position_after (whole_number_of file.now block key.now) position.old }
 {
-    match edf::whole_number(file, block, key) {
-        Number::Value(n) => {
-            *value = n;
-            0
-        }
-        Number::Failed(e) => {
-            *position = e.position;
-            e.code
-        }
-    }
+    put(edf::whole_number(file, block, key), value, position)
 }
 
 // The value of a keyword of a block as a real number: `edf::real`. The number of its unit, and its float.
@@ -100,14 +88,11 @@ pub extern "C" fn edf_real(
     ensures position_after { position.new ≡ position_after (real_in file.now block key.now) position.old }
 {
     match edf::real(file, block, key) {
-        Measured::Value(x) => {
+        Ok(x) => {
             *unit = measures::unit_of(x);
             *value = measures::float_of(x);
             0
         }
-        Measured::Failed(e) => {
-            *position = e.position;
-            e.code
-        }
+        Err(e) => put_error(e, position),
     }
 }

@@ -5,7 +5,7 @@ ghost use Rattle.frame.specs.File.{written_file, FitsFile};
 ghost use Rattle.edf_c.specs.Answers.{code_of, value_after, position_after};
 ghost use Rattle.edf_c.specs.Fields.{frame_of};
 
-use crate::answers::put_written;
+use crate::answers::put;
 use frame::Frame;
 
 // A file of one block, at the front of the lent buffer: `edf::write` of the frame with these fields.
@@ -33,17 +33,17 @@ pub extern "C" fn edf_write(
     ensures out_after { out.new ≡ buffer_after (written_file (frame_of sequence instance memory datatype byteorder n dim1 dim2 dim3 configuration) title.now pixels.now) out.old }
 {
     let frame = Frame {
-        sequence: sequence,
-        instance: instance,
-        memory: memory,
-        datatype: datatype,
-        byteorder: byteorder,
-        n: n,
-        dim1: dim1,
-        dim2: dim2,
-        dim3: dim3,
-        configuration: configuration,
+        sequence,
+        instance,
+        memory,
+        datatype,
+        byteorder,
+        n,
+        dim1,
+        dim2,
+        dim3,
+        configuration,
     };
     let answer = edf::write(frame, title, pixels, out);
-    put_written(answer, written, position)
+    put(answer, written, position)
 }

@@ -8,7 +8,8 @@ use listing::limits::{INPUT_LIMIT, LISTING_ROOM};
 use std::io;
 use std::io::{Input, Read};
 
-// Reads standard input to its end or until the buffer is full: how many bytes it put at the front of the buffer.
+// Reads standard input to its end or until the buffer is full: how many bytes it put at the front of the buffer. Each program that
+// reads has these lines: a crate of their own would be longer.
 fn read_full(rt: &impl Input, buffer: &mut [u8]) -> io::Result<usize>
     ensures { IfOk result (λ n. n ≤ length buffer.new) }
 {

@@ -1,16 +1,13 @@
 // The calls on a block's array.
 use super::print;
-use array::Sampled;
-use description::Described;
 use raster::Pixel;
 use std::io;
-use stored::Stored;
 
 // The Dims.
 pub(crate) fn describe(rt: &impl Print, file: &[u8], block: usize) -> io::Result<()> {
     match edf::describe(file, block) {
-        Described::Array(d) => print::three(rt, d.dim1, d.dim2, d.dim3),
-        Described::Failed(e) => {
+        Ok(d) => print::three(rt, d.dim1, d.dim2, d.dim3),
+        Err(e) => {
             print::column(rt)?;
             print::failure(rt, e)
         }
@@ -21,14 +18,13 @@ pub(crate) fn describe(rt: &impl Print, file: &[u8], block: usize) -> io::Result
 pub(crate) fn stored_array(rt: &impl Print, file: &[u8], block: usize) -> io::Result<()> {
     print::column(rt)?;
     match edf::stored_array(file, block, 1) {
-        Stored::Array(a) => {
-            let span = a.span;
+        Ok(a) => {
             if a.delivered {
-                print::bracketed(rt, edf::part(file, span))?;
+                print::bracketed(rt, edf::part(file, a.span))?;
             }
             Ok(())
         }
-        Stored::Failed(e) => print::failure(rt, e),
+        Err(e) => print::failure(rt, e),
     }
 }
 
@@ -36,12 +32,9 @@ pub(crate) fn stored_array(rt: &impl Print, file: &[u8], block: usize) -> io::Re
 pub(crate) fn read_pixel(rt: &impl Print, file: &[u8], block: usize) -> io::Result<()> {
     print::column(rt)?;
     match edf::read_pixel(file, block, 0, 1, 0) {
-        Sampled::Value(p) => match p {
-            Pixel::Unsigned(n) => print::count(rt, n as usize),
-            Pixel::Signed(z) => print::signed(rt, z),
-            Pixel::Float32(_) => Ok(()),
-            Pixel::Float64(_) => Ok(()),
-        },
-        Sampled::Failed(e) => print::failure(rt, e),
+        Ok(Pixel::Unsigned(n)) => print!(rt; " {n}"),
+        Ok(Pixel::Signed(z)) => print::signed(rt, z),
+        Ok(Pixel::Float32(_) | Pixel::Float64(_)) => Ok(()),
+        Err(e) => print::failure(rt, e),
     }
 }

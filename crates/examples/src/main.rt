@@ -13,7 +13,8 @@ ghost use Rattle.std.specs.Prelude.{◌≤◌, IfOk, length};
 use std::io;
 use std::io::{Input, Read};
 
-// Reads standard input to its end or until the buffer is full: how many bytes it put at the front of the buffer.
+// Reads standard input to its end or until the buffer is full: how many bytes it put at the front of the buffer. Each program that
+// reads has these lines: a crate of their own would be longer.
 fn read_full(rt: &impl Input, buffer: &mut [u8]) -> io::Result<usize>
     ensures { IfOk result (λ n. n ≤ length buffer.new) }
 {
@@ -31,8 +32,7 @@ fn show_block(
     key: &[u8],
     out: &mut [u8],
 ) -> io::Result<()> {
-    print::put(rt, b'\n')?;
-    print::count(rt, block)?;
+    print!(rt; "\n {block}")?;
     arrays::describe(rt, file, block)?;
     let array = edf::read_array(file, block, 1, out);
     print::written(rt, array, out)?;
@@ -58,13 +58,12 @@ fn main(rt: HostRuntime) -> io::Result<()> {
     let mut input = [0u8; 4096];
     let n = read_full(&rt, &mut input)?;
     let file = &input[..n];
-    print::show(
-        &rt,
-        b"block | describe | read_array | stored_array | read_pixel | find | unescape | text | whole_number\n | escape | write | list\n",
+    println!(&rt;
+        "block | describe | read_array | stored_array | read_pixel | find | unescape | text | whole_number\n | escape | write | list"
     )?;
     let mut out = [0u8; 8];
     show_blocks(&rt, file, b"Title", &mut out)?;
-    print::put(&rt, b'\n')?;
+    println!(&rt)?;
     let mut written = [0u8; 1024];
     writing::example(
         &rt,

@@ -1,6 +1,5 @@
 // The calls on a keyword and its value.
 use super::print;
-use keyword::{Located, Number};
 use scan::Span;
 use std::io;
 
@@ -8,12 +7,12 @@ use std::io;
 pub(crate) fn find(rt: &impl Print, file: &[u8], block: usize, key: &[u8]) -> io::Result<Span> {
     print::column(rt)?;
     match edf::find(file, block, key) {
-        Located::At(p) => {
+        Ok(p) => {
             print::count(rt, p.offset)?;
             print::bracketed(rt, edf::part(file, p))?;
             Ok(p)
         }
-        Located::Failed(e) => {
+        Err(e) => {
             print::failure(rt, e)?;
             Ok(Span {
                 offset: 0,
@@ -31,7 +30,7 @@ pub(crate) fn whole_number(
 ) -> io::Result<()> {
     print::column(rt)?;
     match edf::whole_number(file, block, key) {
-        Number::Value(n) => print::signed(rt, n),
-        Number::Failed(e) => print::failure(rt, e),
+        Ok(n) => print::signed(rt, n),
+        Err(e) => print::failure(rt, e),
     }
 }

@@ -2,7 +2,6 @@
 use super::print;
 use frame::Frame;
 use std::io;
-use text::Written;
 
 pub(crate) fn list(rt: &impl Print, file: &[u8], out: &mut [u8]) -> io::Result<()> {
     let w = edf::list(file, out);
@@ -19,8 +18,8 @@ fn write(
 ) -> io::Result<()> {
     print::column(rt)?;
     match edf::write(frame, title, pixels, out) {
-        Written::Length(n) => print::count(rt, n),
-        Written::Failed(e) => print::failure(rt, e),
+        Ok(n) => print::count(rt, n),
+        Err(e) => print::failure(rt, e),
     }
 }
 
@@ -31,7 +30,7 @@ pub(crate) fn example(
     pixels: &[u8],
     out: &mut [u8],
 ) -> io::Result<()> {
-    print::put(rt, b'\n')?;
+    println!(rt)?;
     let value = edf::escape(title, out);
     print::written(rt, value, out)?;
     let frame = Frame {
@@ -50,5 +49,5 @@ pub(crate) fn example(
     print::bracketed(rt, print::first(out, 512))?;
     let mut listing = [0u8; 80];
     list(rt, out, &mut listing)?;
-    print::put(rt, b'\n')
+    println!(rt)
 }

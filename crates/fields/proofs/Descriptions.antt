@@ -1,17 +1,17 @@
 -- The description of a block: its fields are those of the block by the grammar, and 17 is given exactly at the first unknown word.
+use Rattle.std.specs.Prelude.{None, Some, Ok, slice_get}
+use Rattle.scan.specs.Outcome.{refused, require, ◌>>◌}
 use mathlib.Core.Path.{◌≡◌, refl, sym, ap, subst, ◌∙◌}
 use mathlib.Core.Bool.{Bool}
 use mathlib.Core.List.{List}
 use mathlib.Core.Logic.{◌≢◌, ◌↔◌}
-use mathlib.Core.Option.{none, some}
 use Prim.Native.Nat.{ℕ, ◌*◌, ◌≤◌}
 use native.Mathlib.Omega.{arith}
 use borrow.Author.Tests.{eq-eqb, ne_eqb, eqb-true}
 use lib.Dec.{eqb, leb}
 use lib.IntN.{pos}
-use lib.ListN.{length, get_elem?}
+use lib.ListN.{length}
 use Rattle.scan.specs.Byte.{ascii}
-use Rattle.scan.specs.Outcome.{ok, refused, require, ◌>>◌}
 use Rattle.scan.proofs.Finds.{finds_by, finds_map}
 use Rattle.header.specs.Entry.{Entry}
 use Rattle.blocks.specs.Grammar.{Partition}
@@ -19,8 +19,7 @@ use Rattle.blocks.specs.Limits.{file_limit}
 use Rattle.blocks.specs.declared.Row.{Row}
 use Rattle.keyword.specs.Viewing.{value_in}
 use Rattle.origins.specs.Fields.{by_name}
-use Rattle.origins.specs.Origins.{origins_in}
-use Rattle.origins.specs.declared.Origins.{Origins}
+use Rattle.origins.specs.Origins.{FieldOrigins, origins_in}
 use Rattle.raster.specs.Axis.{configurations}
 use Rattle.raster.specs.Position.{product}
 use Rattle.raster.specs.Types.{type_of}
@@ -39,8 +38,8 @@ use Rattle.fields.proofs.UnknownLaws.{words_known, unknown-first}
 
 -- A block with the row, whose fields are read by `look`.
 module _ {s : List ℕ} {rows : List Row} {row : Row} {look : Values} (reads : ReadsFields s rows row look) where
-  fields_say : row.kind ≡ 1 → {origins : Origins} → OriginsAre s rows row origins → (size : ℕ) {d : Description}
-      → described look origins size ≡ ok d → FieldsAre s rows row d
+  fields_say : row.kind ≡ 1 → {origins : FieldOrigins} → OriginsAre s rows row origins → (size : ℕ) {d : Description}
+      → described look origins size ≡ Ok d → FieldsAre s rows row d
   unfolding described
   fields_say kind {origins} from size {d} e =
       let p = step_ok (words_of (by_name look)) _ d e in
@@ -52,7 +51,7 @@ module _ {s : List ℕ} {rows : List Row} {row : Row} {look : Values} (reads : R
       let type = type_of p.0.datatype in
       let v = check_ok (require (leb (product q.0 * type.width) size) 20 0) _ d u.2 in
       let w = check_ok (require (offset_allowed type.class u.0) 21 0)
-      (ok (description_with p.0 q.0 r.0 t.0 u.0 origins)) d v.2 in
+      (Ok (description_with p.0 q.0 r.0 t.0 u.0 origins)) d v.2 in
       let words = words_known reads p.1 in
       subst (FieldsAre s rows row) (same_ok w.2)
       (record {
@@ -72,7 +71,7 @@ module _ {s : List ℕ} {rows : List Row} {row : Row} {look : Values} (reads : R
         origins = from;
       })
 
-  unknown_says : (origins : Origins) (size : ℕ) {k : ℕ} → (described look origins size ≡ refused 17 k) ↔ UnknownField s rows row k
+  unknown_says : (origins : FieldOrigins) (size : ℕ) {k : ℕ} → (described look origins size ≡ refused 17 k) ↔ UnknownField s rows row k
   unfolding described
   unknown_says origins size =
       unknown-first reads _
@@ -92,7 +91,7 @@ module _ {s : List ℕ} {rows : List Row} {row : Row} {look : Values} (reads : R
 -- ---- A block of a file with a partition
 
 module _ {s : List ℕ} {rows : List Row} (small : length s ≤ file_limit) (p : Partition s rows) (b : ℕ) where
-  module _ {row : Row} (at : get_elem? rows b ≡ some row) where
+  module _ {row : Row} (at : slice_get rows b ≡ Some row) where
     pub reads_field : ReadsFields s rows row (value_in (view_here small p b at))
     reads_field name = record {
       finds = finds_by
@@ -106,7 +105,7 @@ module _ {s : List ℕ} {rows : List Row} (small : length s ≤ file_limit) (p :
     unfolding description_of
     description_by = rw (view_is small p b at)
 
-    pub described_fields : {d : Description} → description_of s b ≡ ok d → FieldsAre s rows row d
+    pub described_fields : {d : Description} → description_of s b ≡ Ok d → FieldsAre s rows row d
     unfolding description_in
     described_fields {d} e =
         let q = check_ok (require (eqb row.kind 1) 16 0) _ d (sym description_by ∙ e) in
@@ -127,6 +126,6 @@ module _ {s : List ℕ} {rows : List Row} (small : length s ≤ file_limit) (p :
     general_refused kind = description_by ∙ rw (ne_eqb row.kind 1 kind)
 
   -- No such block.
-  pub description_missing : get_elem? rows b ≡ none → description_of s b ≡ refused 16 0
+  pub description_missing : slice_get rows b ≡ None → description_of s b ≡ refused 16 0
   unfolding description_of
   description_missing at = rw (view_missing small p b at)

@@ -1,9 +1,10 @@
 -- The Dims: those that are read are those that are found, by the grammar.
+use Rattle.std.specs.Prelude.{Ok}
+use Rattle.scan.specs.Outcome.{present}
 use mathlib.Core.Path.{◌≡◌, refl, sym, ap, ◌∙◌}
 use mathlib.Core.List.{List, [], ◌∷◌, ◌++◌, map, append_assoc, append-nil}
 use Prim.Native.Nat.{ℕ}
 use Rattle.scan.specs.Byte.{ascii}
-use Rattle.scan.specs.Outcome.{ok, present}
 use Rattle.scan.proofs.Cases.{ok-failed}
 use Rattle.scan.proofs.Finds.{by_finds}
 use Rattle.text.specs.Number.{whole_number}
@@ -21,7 +22,7 @@ use Rattle.fields.proofs.Present.{present_some}
 
 module _ {s : List ℕ} {rows : List Row} {row : Row} {look : Values} (reads : ReadsFields s rows row look) where
   -- The Dims of the keys from `name` on, after those in front that were read.
-  after_sound : (front name : List ℕ) (names : List (List ℕ)) {dims : List ℕ} → dims_after front (map look (name ∷ names)) ≡ ok dims
+  after_sound : (front name : List ℕ) (names : List (List ℕ)) {dims : List ℕ} → dims_after front (map look (name ∷ names)) ≡ Ok dims
       → (ds : List ℕ) × DimsFound s rows row (name ∷ names) ds × (dims ≡ or_empty (front ++ ds))
   unfolding dims_after
   after_sound front name [] {dims} e =
@@ -43,7 +44,7 @@ module _ {s : List ℕ} {rows : List Row} {row : Row} {look : Values} (reads : R
   found_are (missing n) = none_found n
   found_are (found h w a b rest) = some-found (found h w a b rest)
 
-  pub dims_say : {dims : List ℕ} → dims_of look ≡ ok dims → DimsAre s rows row dims
+  pub dims_say : {dims : List ℕ} → dims_of look ≡ Ok dims → DimsAre s rows row dims
   dims_say e =
       let m = after_sound [] (ascii "Dim_1") (ascii "Dim_2" ∷ ascii "Dim_3" ∷ ascii "Dim_4" ∷ []) (dims_from_none look refl ∙ e) in
       rw m.2 (found_are m.1)

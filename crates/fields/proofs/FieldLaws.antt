@@ -1,13 +1,14 @@
 -- One field: what is read of it is its value by the grammar, or its default exactly if it is absent.
+use Rattle.std.specs.Prelude.{Option, None, Some, Ok}
+use Rattle.std.proofs.lemmas.Option.{same_Some}
+use Rattle.scan.specs.Outcome.{Outcome, refused}
 use mathlib.Core.Path.{◌≡◌, refl, subst}
 use mathlib.Core.Bool.{◌&&◌}
 use mathlib.Core.List.{List}
-use mathlib.Core.Option.{Option, none, some, some-injective}
 use Prim.Native.Nat.{ℕ, ◌≤◌}
 use borrow.Author.Tests.{leb-true}
 use lib.Dec.{leb}
 use lib.IntN.{ℤ, pos, negsuc}
-use Rattle.scan.specs.Outcome.{Outcome, ok, refused}
 use Rattle.scan.proofs.Cases.{by_test, both_true, none_some}
 use Rattle.scan.proofs.Finds.{by_finds}
 use Rattle.text.specs.Number.{whole_number}
@@ -22,22 +23,22 @@ use Rattle.fields.proofs.Present.{present_some}
 use Rattle.fields.proofs.WordLaws.{finds_code}
 
 -- A whole number in a range.
-pub range_sound : (least most : ℕ) (w : Option ℤ) {n : ℕ} → in_range least most w ≡ some n → (w ≡ some (pos n)) × (least ≤ n) × (n ≤ most)
-range_sound least most none e = absurd (none_some e)
-range_sound least most (some (pos m)) {n} e =
+pub range_sound : (least most : ℕ) (w : Option ℤ) {n : ℕ} → in_range least most w ≡ Some n → (w ≡ Some (pos n)) × (least ≤ n) × (n ≤ most)
+range_sound least most None e = absurd (none_some e)
+range_sound least most (Some (pos m)) {n} e =
     by_test (leb least m && leb m most)
     (λ t.
-    let q : m ≡ n = some-injective m n (rw t at e) in
+    let q : m ≡ n = same_Some m n (rw t at e) in
     let b = both_true (leb least m) (leb m most) t in
     rw (← q) (refl, leb-true least m b.0, leb-true m most b.1))
     (λ t. absurd (none_some (rw t at e)))
-range_sound least most (some (negsuc m)) e = absurd (none_some e)
+range_sound least most (Some (negsuc m)) e = absurd (none_some e)
 
 -- ---- `Has v`: the field is there with the value v, and o is the value that is read
 
 -- What the outcome of a word says.
 pub data WordSays (Has : List ℕ → Type 0) (field : ℕ) (words : List (List ℕ)) (default : ℕ) : Outcome ℕ → Type 0 where
-  known : {code : ℕ} → WordIs Has words default code → WordSays Has field words default (ok code)
+  known : {code : ℕ} → WordIs Has words default code → WordSays Has field words default (Ok code)
   unknown : Unknown Has words → WordSays Has field words default (refused 17 field)
 
 module _ {Has : List ℕ → Type 0} {o : Option (List ℕ)} (reads : Reads Has o) where
@@ -55,7 +56,7 @@ module _ {Has : List ℕ → Type 0} {o : Option (List ℕ)} (reads : Reads Has 
   not_both (WordIs.absent n) u = n u.value u.has
   not_both {words} (WordIs.given {code = code} h w) u = u.unknown code (subst (IsWord words code) (reads.one h u.has) w)
 
-  pub number_says : (field most default : ℕ) {n : ℕ} → range_field field most default o ≡ ok n → NumberIs Has most default n
+  pub number_says : (field most default : ℕ) {n : ℕ} → range_field field most default o ≡ Ok n → NumberIs Has most default n
   unfolding range_field
   number_says field most default {n} q =
       by_finds reads.finds
@@ -63,7 +64,7 @@ module _ {Has : List ℕ → Type 0} {o : Option (List ℕ)} (reads : Reads Has 
       NumberIs.given h (whole_sound v r.0) r.1 r.2)
       (λ e n. rw (← same_ok (rw e at q)) (NumberIs.absent n))
 
-  pub whole_says : (field : ℕ) (default : ℤ) {z : ℤ} → whole_field field default o ≡ ok z → WholeIs Has default z
+  pub whole_says : (field : ℕ) (default : ℤ) {z : ℤ} → whole_field field default o ≡ Ok z → WholeIs Has default z
   unfolding whole_field
   whole_says field default q =
       by_finds reads.finds

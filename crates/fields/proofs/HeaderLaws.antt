@@ -1,9 +1,8 @@
 -- A key in one header: what is looked up among the entries that are read of it is what the grammar says.
+use Rattle.std.specs.Prelude.{Some, slice_get}
 use mathlib.Core.Path.{◌≡◌, sym, subst, ◌∙◌}
 use mathlib.Core.List.{List}
-use mathlib.Core.Option.{some}
 use Prim.Native.Nat.{ℕ}
-use lib.ListN.{get_elem?}
 use Rattle.scan.proofs.Finds.{Finds, finds_by}
 use Rattle.header.specs.Entries.{entries, lookup}
 use Rattle.header.specs.Entry.{Entry, body_of}
@@ -58,7 +57,7 @@ module _ {s : List ℕ} {start : ℕ} where
 -- ---- The headers of a partition
 
 module _ {s : List ℕ} {rows : List Row} (p : Partition s rows) where
-  pub row_headed : (b : ℕ) {row : Row} → get_elem? rows b ≡ some row → Headed s row.start
+  pub row_headed : (b : ℕ) {row : Row} → slice_get rows b ≡ Some row → Headed s row.start
   row_headed b at =
       let r = row_header p (member_at rows b at) in
       record {
@@ -69,7 +68,7 @@ module _ {s : List ℕ} {rows : List Row} (p : Partition s rows) where
       }
 
   -- The general header, if there is one, stands at 0.
-  module _ {first : Row} (at : get_elem? rows 0 ≡ some first) (general : first.kind ≡ 0) where
+  module _ {first : Row} (at : slice_get rows 0 ≡ Some first) (general : first.kind ≡ 0) where
     pub general_stands : HasHeader s 0 p.first_header.heads.header p.first_header.heads.statements p.first_header.entries
     general_stands =
         let f = p.first_header.heads in

@@ -1,13 +1,14 @@
 -- A keyword of a block: `entry_of` answers the statement that the grammar says, and 16 exactly where no statement in reach has the key.
+use Rattle.std.specs.Prelude.{Option, None, Some, Ok, slice_get}
+use Rattle.std.proofs.lemmas.Option.{same_Some}
+use Rattle.scan.specs.Outcome.{refused, present}
 use mathlib.Core.Path.{◌≡◌, refl, sym, ap, ◌∙◌}
 use mathlib.Core.Bool.{Bool, true, false, cond, not, ◌&&◌}
 use mathlib.Core.List.{List, []}
 use mathlib.Core.Logic.{◌↔◌}
-use mathlib.Core.Option.{Option, none, some, some-injective}
 use Prim.Native.Nat.{ℕ, ◌≤◌}
 use lib.Dec.{eqb}
-use lib.ListN.{length, get_elem?}
-use Rattle.scan.specs.Outcome.{ok, refused, present}
+use lib.ListN.{length}
 use Rattle.scan.proofs.Cases.{by_test, none_some}
 use Rattle.scan.proofs.Decides.{Decides, decided, holds, fails, decides_by, decides_and, decides_not, eqb_decides}
 use Rattle.scan.proofs.Finds.{Finds, found, missing, finds_some, finds_none, finds_has, finds_no}
@@ -29,12 +30,12 @@ use Rattle.fields.proofs.Present.{present_some, present_none}
 -- ---- Whether the general header is in reach
 
 abbrev pub shared : List Row → Row → Bool
-shared rows row = eqb row.kind 1 && is_general (get_elem? rows 0)
+shared rows row = eqb row.kind 1 && is_general (slice_get rows 0)
 
-general_decides : (o : Option Row) → Decides ((first : Row) × (o ≡ some first) × (first.kind ≡ 0)) (is_general o)
-general_decides none = fails (λ h. none_some h.1)
-general_decides (some row) =
-    decides_by (λ e. (row, refl, e)) (λ h. ap (λ (r : Row). r.kind) (some-injective row h.0 h.1) ∙ h.2)
+general_decides : (o : Option Row) → Decides ((first : Row) × (o ≡ Some first) × (first.kind ≡ 0)) (is_general o)
+general_decides None = fails (λ h. none_some h.1)
+general_decides (Some row) =
+    decides_by (λ e. (row, refl, e)) (λ h. ap (λ (r : Row). r.kind) (same_Some row h.0 h.1) ∙ h.2)
     (eqb_decides row.kind 0)
 
 pub inherits_decides : (rows : List Row) (row : Row) (key : List ℕ) → Decides (Inherits rows row key) (shared rows row && not (is_edf_key key))
@@ -42,11 +43,11 @@ inherits_decides rows row key =
     decides_by
     (λ h. let g = h.0.1 in record { data_block = h.0.0; first = g.0; first_is = g.1; general = g.2; no_edf_key = h.1 })
     (λ i. ((i.data_block, (i.first, i.first_is, i.general)), i.no_edf_key))
-    (decides_and (decides_and (eqb_decides row.kind 1) (general_decides (get_elem? rows 0))) (decides_not (edf_decides key)))
+    (decides_and (decides_and (eqb_decides row.kind 1) (general_decides (slice_get rows 0))) (decides_not (edf_decides key)))
 
 -- The general entries that are looked through.
 pub in_reach : (edf share : Bool) (key : List ℕ) (es : List Entry)
-    → cond edf none (lookup key (cond share es [])) ≡ cond (share && not edf) (lookup key es) none
+    → cond edf None (lookup key (cond share es [])) ≡ cond (share && not edf) (lookup key es) None
 unfolding lookup
 in_reach true true key es = refl
 in_reach true false key es = refl
@@ -63,7 +64,7 @@ module _ {s : List ℕ} {rows : List Row} {row : Row} {sought : List ℕ} where
 
   finds_by_headers : {own general : Option Entry} {b : Bool} → Finds (HeaderHas s row.start (key_of sought)) own
       → Decides (Inherits rows row (key_of sought)) b → (Inherits rows row (key_of sought) → Finds (HeaderHas s 0 (key_of sought)) general)
-      → Finds (HasKeyword s rows row sought) (first_of own (cond b general none))
+      → Finds (HasKeyword s rows row sought) (first_of own (cond b general None))
   finds_by_headers (found x) d g = found (HasKeyword.own x)
   finds_by_headers (missing n) (holds i) g = inherited (g i)
     where
@@ -82,7 +83,7 @@ module _ {s : List ℕ} {rows : List Row} {row : Row} {sought : List ℕ} where
 -- ---- A block of a file with a partition
 
 module _ {s : List ℕ} {rows : List Row} (small : length s ≤ file_limit) (p : Partition s rows) (b : ℕ) where
-  module _ {row : Row} (at : get_elem? rows b ≡ some row) where
+  module _ {row : Row} (at : slice_get rows b ≡ Some row) where
     -- Its view.
     abbrev pub view_here : View
     view_here = record {
@@ -91,14 +92,14 @@ module _ {s : List ℕ} {rows : List Row} (small : length s ≤ file_limit) (p :
       general = cond (shared rows row) p.first_header.entries [];
     }
 
-    pub view_is : view_of s b ≡ ok view_here
+    pub view_is : view_of s b ≡ Ok view_here
     unfolding view_of general_entries
     view_is =
         let read = (file_accepted s small).1 p in
         let own = entries_read (row_headed p b at).stands in
         by_test (shared rows row)
         (λ t.
-        let g = (decided (decides_and (eqb_decides row.kind 1) (general_decides (get_elem? rows 0))) t).1 in
+        let g = (decided (decides_and (eqb_decides row.kind 1) (general_decides (slice_get rows 0))) t).1 in
         rw (read, at, own, t, entries_read (general_stands p g.1 g.2)))
         (λ t. rw (read, at, own, t))
 
@@ -115,7 +116,7 @@ module _ {s : List ℕ} {rows : List Row} (small : length s ≤ file_limit) (p :
       unfolding entry_of
       entry_by = rw view_is
 
-      pub keyword-found : {e : Entry} → (entry_of s b sought ≡ ok e) ↔ HasKeyword s rows row sought e
+      pub keyword-found : {e : Entry} → (entry_of s b sought ≡ Ok e) ↔ HasKeyword s rows row sought e
       keyword-found = (
         λ q. finds_has finds_keyword (present_some 16 0 (lookup_in view_here sought) (sym entry_by ∙ q)),
         λ h. entry_by ∙ ap (λ (o : Option Entry). present o 16 0) (finds_some finds_keyword (λ y x z. one-keyword x z) h),
@@ -128,7 +129,7 @@ module _ {s : List ℕ} {rows : List Row} (small : length s ≤ file_limit) (p :
       )
 
   -- No such block.
-  module _ (at : get_elem? rows b ≡ none) where
+  module _ (at : slice_get rows b ≡ None) where
     pub view_missing : view_of s b ≡ refused 16 0
     unfolding view_of
     view_missing = rw ((file_accepted s small).1 p, at)

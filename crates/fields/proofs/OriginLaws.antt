@@ -1,10 +1,10 @@
 -- The origin of a keyword and of each field: those that are found out are those of the grammar.
+use Rattle.std.specs.Prelude.{Option, None, Some, slice_get}
 use mathlib.Core.Path.{◌≡◌, refl, sym}
 use mathlib.Core.Bool.{Bool, cond}
 use mathlib.Core.List.{List}
-use mathlib.Core.Option.{Option, none, some}
 use Prim.Native.Nat.{ℕ, ◌≤◌}
-use lib.ListN.{length, get_elem?}
+use lib.ListN.{length}
 use Rattle.scan.specs.Byte.{ascii}
 use Rattle.scan.proofs.Decides.{Decides, holds, fails}
 use Rattle.scan.proofs.Finds.{Finds, found, missing}
@@ -18,8 +18,7 @@ use Rattle.keyword.specs.Origin.{origin_by, origin_in}
 use Rattle.keyword.specs.declared.Origin.{Origin}
 use Rattle.keyword.specs.declared.Origin.TheVariants as origin
 use Rattle.origins.specs.Fields.{by_name}
-use Rattle.origins.specs.Origins.{origins_from, origins_in}
-use Rattle.origins.specs.declared.Origins.{Origins}
+use Rattle.origins.specs.Origins.{FieldOrigins, origins_in}
 use Rattle.origins.proofs.LetterLaws.{own_general, own_default, general_default}
 use Rattle.fields.specs.Keyword.{HeaderHas, Inherits, HasKeyword, LacksKeyword}
 use Rattle.fields.specs.Origin.{OwnHas, GeneralHas, ComesFrom, EachOrigin, OriginsAre}
@@ -58,18 +57,18 @@ module _ {s : List ℕ} {rows : List Row} {row : Row} {name : List ℕ} where
 
   from_headers : {own general : Option Entry} {b : Bool} → Finds (HeaderHas s row.start (key_of name)) own
       → Decides (Inherits rows row (key_of name)) b → (Inherits rows row (key_of name) → Finds (HeaderHas s 0 (key_of name)) general)
-      → ComesFrom s rows row name (origin_by own (cond b general none))
+      → ComesFrom s rows row name (origin_by own (cond b general None))
   from_headers (found x) d g = from_own (_, x)
   from_headers (missing n) (holds i) g = inherited (g i)
     where
-      inherited : {general : Option Entry} → Finds (HeaderHas s 0 (key_of name)) general → ComesFrom s rows row name (origin_by none general)
+      inherited : {general : Option Entry} → Finds (HeaderHas s 0 (key_of name)) general → ComesFrom s rows row name (origin_by None general)
       inherited (found x) = from_general (λ h. n h.0 h.1) (i, (_, x))
       inherited (missing m) = from_nowhere (lacks n (λ j. m))
   from_headers (missing n) (fails k) g = from_nowhere (lacks n (λ i. absurd (k i)))
 
 -- ---- The seven
 
-pub each_by : {P : List ℕ → Origin → Type 0} (from : List ℕ → Origin) → ((name : List ℕ) → P name (from name)) → EachOrigin P (origins_from (by_name from))
+pub each_by : {P : List ℕ → Origin → Type 0} (from : List ℕ → Origin) → ((name : List ℕ) → P name (from name)) → EachOrigin P (by_name from)
 each_by from h = record {
   datatype = h (ascii "DataType");
   byteorder = h (ascii "ByteOrder");
@@ -80,7 +79,7 @@ each_by from h = record {
   offset = h (ascii "DataValueOffset");
 }
 
-pub each_map : {P Q : List ℕ → Origin → Type 0} {o : Origins} → ((name : List ℕ) (x : Origin) → P name x → Q name x)
+pub each_map : {P Q : List ℕ → Origin → Type 0} {o : FieldOrigins} → ((name : List ℕ) (x : Origin) → P name x → Q name x)
     → EachOrigin P o → EachOrigin Q o
 each_map f e = record {
   datatype = f _ _ e.datatype;
@@ -95,7 +94,7 @@ each_map f e = record {
 -- ---- A block of a file with a partition
 
 module _ {s : List ℕ} {rows : List Row} (small : length s ≤ file_limit) (p : Partition s rows) (b : ℕ) {row : Row}
-    (at : get_elem? rows b ≡ some row) where
+    (at : slice_get rows b ≡ Some row) where
   pub comes_from : (name : List ℕ) → ComesFrom s rows row name (origin_in (view_here small p b at) name)
   unfolding origin_in
   comes_from name =

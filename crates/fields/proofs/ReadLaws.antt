@@ -1,12 +1,12 @@
 -- What is read of a keyword, by the grammar: where its value stands, its bytes, and the value as a whole number and as text.
+use Rattle.std.specs.Prelude.{Option, Some, Ok, Err, slice_get}
+use Rattle.scan.specs.Outcome.{refused, present}
 use mathlib.Core.Path.{◌≡◌, refl, sym, ap, ◌∙◌}
 use mathlib.Core.List.{List}
 use mathlib.Core.Logic.{◌↔◌}
-use mathlib.Core.Option.{Option, some}
 use Prim.Native.Nat.{ℕ, ◌≤◌}
 use lib.IntN.{ℤ}
-use lib.ListN.{length, get_elem?}
-use Rattle.scan.specs.Outcome.{ok, failed, refused, present}
+use lib.ListN.{length}
 use Rattle.scan.specs.declared.Error.{Error}
 use Rattle.scan.specs.declared.Span.{Span}
 use Rattle.scan.proofs.Cases.{by_option, by_outcome, none_some, ok-failed}
@@ -29,25 +29,25 @@ use Rattle.fields.proofs.Present.{present_some, present_none}
 -- ---- A keyword that is not found
 
 module _ (s : List ℕ) (b : ℕ) (sought : List ℕ) where
-  module _ {x : Error} (e : entry_of s b sought ≡ failed x) where
-    pub not_found : found s b sought ≡ failed x
+  module _ {x : Error} (e : entry_of s b sought ≡ Err x) where
+    pub not_found : found s b sought ≡ Err x
     unfolding found
     not_found = rw e
 
-    pub no_number : whole_number_of s b sought ≡ failed x
+    pub no_number : whole_number_of s b sought ≡ Err x
     unfolding whole_number_of
     no_number = rw e
 
-    pub no_text : text_in s b sought ≡ failed x
+    pub no_text : text_in s b sought ≡ Err x
     unfolding text_in
     no_text = rw e
 
-  no_entry_lem : {x : Error} → found s b sought ≡ failed x → entry_of s b sought ≡ failed x
+  no_entry_lem : {x : Error} → found s b sought ≡ Err x → entry_of s b sought ≡ Err x
   unfolding found
   no_entry_lem {x} q =
       by_outcome (entry_of s b sought)
       (λ e r. absurd (ok-failed (rw r at q)))
-      (λ y r. let z : y ≡ x = cc (rw r at q) in r ∙ ap failed z)
+      (λ y r. let z : y ≡ x = cc (rw r at q) in r ∙ ap Err z)
 
 -- A field is absent if its keyword is.
 pub lacks_absent : {s : List ℕ} {rows : List Row} {row : Row} {name : List ℕ}
@@ -60,14 +60,14 @@ lacks_absent = (
 -- ---- A block of a file with a partition
 
 module _ {s : List ℕ} {rows : List Row} (small : length s ≤ file_limit) (p : Partition s rows) (b : ℕ) {row : Row}
-    (at : get_elem? rows b ≡ some row) (sought : List ℕ) where
-  pub found_at : {span : Span} → (found s b sought ≡ ok span) ↔ ((e : Entry) × HasKeyword s rows row sought e × (e.span ≡ span))
+    (at : slice_get rows b ≡ Some row) (sought : List ℕ) where
+  pub found_at : {span : Span} → (found s b sought ≡ Ok span) ↔ ((e : Entry) × HasKeyword s rows row sought e × (e.span ≡ span))
   unfolding found
   found_at {span} = (
     λ q.
-        let r = step_ok (entry_of s b sought) (λ (e : Entry). ok e.span) span q in
+        let r = step_ok (entry_of s b sought) (λ (e : Entry). Ok e.span) span q in
         (r.0, (keyword-found small p b at sought).0 r.1, same_ok r.2),
-    λ h. rw ((keyword-found small p b at sought).1 h.1) (ap ok h.2),
+    λ h. rw ((keyword-found small p b at sought).1 h.1) (ap Ok h.2),
   )
 
   pub found_none : (found s b sought ≡ refused 16 0) ↔ LacksKeyword s rows row sought
@@ -77,10 +77,10 @@ module _ {s : List ℕ} {rows : List Row} (small : length s ≤ file_limit) (p :
   )
 
   module _ {e : Entry} (has : HasKeyword s rows row sought e) where
-    entry_is : entry_of s b sought ≡ ok e
+    entry_is : entry_of s b sought ≡ Ok e
     entry_is = (keyword-found small p b at sought).1 has
 
-    pub value_is : value_found s b sought ≡ ok e.value
+    pub value_is : value_found s b sought ≡ Ok e.value
     unfolding value_found
     value_is = rw entry_is
 
@@ -92,7 +92,7 @@ module _ {s : List ℕ} {rows : List Row} (small : length s ≤ file_limit) (p :
     unfolding whole_number_of
     number_by_lem = rw entry_is
 
-    pub number_is : {z : ℤ} → (whole_number_of s b sought ≡ ok z) ↔ IsWhole e.value z
+    pub number_is : {z : ℤ} → (whole_number_of s b sought ≡ Ok z) ↔ IsWhole e.value z
     number_is = (
       λ q. whole_sound e.value (present_some 18 0 (whole_number e.value) (sym number_by_lem ∙ q)),
       λ w. number_by_lem ∙ ap (λ (o : Option ℤ). present o 18 0) (whole_complete w),

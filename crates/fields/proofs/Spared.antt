@@ -1,16 +1,16 @@
 -- Errors that a definition does not give: 17, "unknown word", is given by no check after field 3.
+use Rattle.std.specs.Prelude.{Option, None, Some, Ok, Err}
+use Rattle.scan.specs.Outcome.{Outcome, error_at, refused, require, present, ◌>>=◌, ◌>>◌}
 use mathlib.Core.Path.{◌≡◌}
 use mathlib.Core.Bool.{Bool, true, false, not}
 use mathlib.Core.List.{List, [], ◌∷◌, ◌++◌}
 use mathlib.Core.Logic.{◌≢◌}
-use mathlib.Core.Option.{Option, none, some}
 use Prim.Native.Nat.{ℕ, suc}
 use native.Mathlib.Omega.{arith}
 use lib.Dec.{eqb}
 use lib.IntN.{ℤ}
 use lib.ListN.{length}
 use Rattle.scan.specs.Byte.{ascii}
-use Rattle.scan.specs.Outcome.{Outcome, ok, failed, error_at, refused, require, present, ◌>>=◌, ◌>>◌}
 use Rattle.scan.proofs.Cases.{ok-failed}
 use Rattle.text.specs.Number.{whole_number}
 use Rattle.description.specs.Describe.{Values, dim_values, dims_of}
@@ -19,16 +19,16 @@ use Rattle.description.specs.Limits.{most_dims, dim_limit}
 
 -- No error 17.
 abbrev pub Spares17 : {A : Type 0} → Outcome A → Type 0
-Spares17 (ok x) = Unit {0}
-Spares17 (failed e) = e.code ≢ 17
+Spares17 (Ok x) = Unit {0}
+Spares17 (Err e) = e.code ≢ 17
 
 pub spared : {A : Type 0} {k : ℕ} (o : Outcome A) → Spares17 o → o ≡ refused 17 k → ⊥
-spared (ok x) h e = ok-failed e
-spared {A} {k} (failed x) h e = let q : x ≡ error_at 17 k = cc in h (rw q)
+spared (Ok x) h e = ok-failed e
+spared {A} {k} (Err x) h e = let q : x ≡ error_at 17 k = cc in h (rw q)
 
 present_spares : {A : Type 0} (o : Option A) (code position : ℕ) → code ≢ 17 → Spares17 (present o code position)
-present_spares (some x) code position apart = tt
-present_spares none code position apart = apart
+present_spares (Some x) code position apart = tt
+present_spares None code position apart = apart
 
 pub require_spares : {B : Type 0} (b : Bool) (code position : ℕ) (rest : Outcome B) → code ≢ 17 → Spares17 rest
     → Spares17 (require b code position >> rest)
@@ -36,21 +36,21 @@ require_spares true code position rest apart h = h
 require_spares false code position rest apart h = apart
 
 pub step_spares : {A B : Type 0} (o : Outcome A) (go : A → Outcome B) → Spares17 o → ((x : A) → Spares17 (go x)) → Spares17 (o >>= go)
-step_spares (ok x) go h rest = rest x
-step_spares (failed e) go h rest = h
+step_spares (Ok x) go h rest = rest x
+step_spares (Err e) go h rest = h
 
 -- ---- The fields after field 3
 
 module _ (field : ℕ) where
   pub range_spares : (most default : ℕ) (o : Option (List ℕ)) → Spares17 (range_field field most default o)
   unfolding range_field
-  range_spares most default none = tt
-  range_spares most default (some v) = present_spares (in_range 1 most (whole_number v)) 18 field (λ e. omega arith)
+  range_spares most default None = tt
+  range_spares most default (Some v) = present_spares (in_range 1 most (whole_number v)) 18 field (λ e. omega arith)
 
   pub whole_spares : (default : ℤ) (o : Option (List ℕ)) → Spares17 (whole_field field default o)
   unfolding whole_field
-  whole_spares default none = tt
-  whole_spares default (some v) = present_spares (whole_number v) 18 field (λ e. omega arith)
+  whole_spares default None = tt
+  whole_spares default (Some v) = present_spares (whole_number v) 18 field (λ e. omega arith)
 
 from_spares : (vs : List (List ℕ)) → Spares17 (dims_from vs)
 unfolding dims_from

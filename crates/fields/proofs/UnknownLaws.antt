@@ -1,10 +1,11 @@
 -- Fields 1 to 3: their codes by the grammar, or 17 at the first whose word is unknown.
+use Rattle.std.specs.Prelude.{Ok}
+use Rattle.scan.specs.Outcome.{Outcome, error_at, refused, ◌>>=◌}
 use mathlib.Core.Path.{◌≡◌, refl, sym, ap, subst}
 use mathlib.Core.List.{List}
 use mathlib.Core.Logic.{◌↔◌}
 use Prim.Native.Nat.{ℕ}
 use Rattle.scan.specs.Byte.{ascii}
-use Rattle.scan.specs.Outcome.{Outcome, ok, error_at, refused, ◌>>=◌}
 use Rattle.scan.specs.declared.Error.{Error}
 use Rattle.scan.proofs.Cases.{ok-failed}
 use Rattle.blocks.specs.declared.Row.{Row}
@@ -20,14 +21,14 @@ use Rattle.fields.proofs.Spared.{Spares17, spared}
 -- What the outcome of the three says.
 data WordsSay (s : List ℕ) (rows : List Row) (row : Row) : Outcome Words → Type 0 where
   all_known : {w : Words} → TypeIs s rows row w.datatype → OrderIs s rows row w.byteorder → CompressionIs s rows row w.compression
-      → WordsSay s rows row (ok w)
+      → WordsSay s rows row (Ok w)
   one-unknown : {k : ℕ} → UnknownField s rows row k → WordsSay s rows row (refused 17 k)
 
 module _ {s : List ℕ} {rows : List Row} {row : Row} where
   join : {a b c : Outcome ℕ} → WordSays (FieldHas s rows row (ascii "DataType")) 1 type_words 7 a
       → WordSays (FieldHas s rows row (ascii "ByteOrder")) 2 order_words 1 b
       → WordSays (FieldHas s rows row (ascii "Compression")) 3 compression_words 1 c
-      → WordsSay s rows row (a >>= λ x. b >>= λ y. c >>= λ z. ok (record { datatype = x; byteorder = y; compression = z }))
+      → WordsSay s rows row (a >>= λ x. b >>= λ y. c >>= λ z. Ok (record { datatype = x; byteorder = y; compression = z }))
   join (unknown u) b c = one-unknown (datatype u)
   join (known x) (unknown u) c = one-unknown (byteorder x u)
   join (known x) (known y) (unknown u) = one-unknown (compression x y u)
@@ -42,11 +43,11 @@ module _ {s : List ℕ} {rows : List Row} {row : Row} where
         (word_says (reads (ascii "Compression")) 3 compression_words 1)
 
     -- Their codes.
-    pub words_known : {w : Words} → words_of (by_name look) ≡ ok w
+    pub words_known : {w : Words} → words_of (by_name look) ≡ Ok w
         → TypeIs s rows row w.datatype × OrderIs s rows row w.byteorder × CompressionIs s rows row w.compression
     words_known {w} = go words_say
       where
-        go : {o : Outcome Words} → WordsSay s rows row o → o ≡ ok w
+        go : {o : Outcome Words} → WordsSay s rows row o → o ≡ Ok w
             → TypeIs s rows row w.datatype × OrderIs s rows row w.byteorder × CompressionIs s rows row w.compression
         go (all_known x y z) e = rw (← same_ok e) (x, y, z)
         go (one-unknown u) e = absurd (ok-failed (sym e))

@@ -1,7 +1,5 @@
 -- A keyword of a block, by the grammar: which statement of which header it is. Nothing here says how it is looked up.
-use Rattle.std.specs.Prelude.{◌≡◌, List, ℕ}
-use Rattle.std.proofs.Math.Option.{some}
-use Rattle.std.proofs.Math.ListN.{get_elem?}
+use Rattle.std.specs.Prelude.{◌≡◌, List, ℕ, Some, slice_get}
 use Rattle.text.specs.Key.{key_of}
 use Rattle.header.specs.Entry.{Entry}
 use Rattle.header.specs.declared.Header.{Header}
@@ -27,7 +25,7 @@ HeaderLacks s start key = (e : Entry) → HeaderHas s start key e → ⊥
 pub record Inherits (rows : List Row) (row : Row) (key : List ℕ) : Type 0 where
   pub data_block : row.kind ≡ 1
   pub first : Row
-  pub first_is : get_elem? rows 0 ≡ some first
+  pub first_is : slice_get rows 0 ≡ Some first
   pub general : first.kind ≡ 0
   pub no_edf_key : IsEdfKey key → ⊥
 

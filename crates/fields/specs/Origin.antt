@@ -6,7 +6,7 @@ use Rattle.header.specs.Entry.{Entry}
 use Rattle.blocks.specs.declared.Row.{Row}
 use Rattle.keyword.specs.declared.Origin.{Origin}
 use Rattle.keyword.specs.declared.Origin.TheVariants as origin
-use Rattle.origins.specs.declared.Origins.{Origins}
+use Rattle.origins.specs.Origins.{FieldOrigins}
 use Rattle.fields.specs.Keyword.{HeaderHas, Inherits, LacksKeyword}
 
 module _ (s : List ℕ) (rows : List Row) (row : Row) where
@@ -26,7 +26,7 @@ module _ (s : List ℕ) (rows : List Row) (row : Row) where
     pub default : (o ≡ origin.Default) ↔ LacksKeyword s rows row name
 
 -- What holds of the origin of each field, by the field's name; "Dim: that of Dim_1".
-pub record EachOrigin (P : List ℕ → Origin → Type 0) (o : Origins) : Type 0 where
+pub record EachOrigin (P : List ℕ → Origin → Type 0) (o : FieldOrigins) : Type 0 where
   pub datatype : P (ascii "DataType") o.datatype
   pub byteorder : P (ascii "ByteOrder") o.byteorder
   pub compression : P (ascii "Compression") o.compression
@@ -36,5 +36,5 @@ pub record EachOrigin (P : List ℕ → Origin → Type 0) (o : Origins) : Type 
   pub offset : P (ascii "DataValueOffset") o.offset
 
 -- Each field came from where its origin says.
-abbrev pub OriginsAre : List ℕ → List Row → Row → Origins → Type 0
+abbrev pub OriginsAre : List ℕ → List Row → Row → FieldOrigins → Type 0
 OriginsAre s rows row = EachOrigin (ComesFrom s rows row)

@@ -1,4 +1,6 @@
 -- A file is written exactly if the frame, the pixels and the title are allowed, and then it is this file.
+use Rattle.std.specs.Prelude.{Ok}
+use Rattle.scan.specs.Outcome.{Outcome, require, ◌>>◌}
 use mathlib.Core.Path.{◌≡◌, refl, sym, ap}
 use mathlib.Core.Bool.{Bool, true, false}
 use mathlib.Core.List.{List, [], ◌∷◌}
@@ -8,7 +10,6 @@ use borrow.Author.Tests.{eqb-true, eq-eqb, le-leb, leb-true}
 use lib.Dec.{eqb, leb}
 use lib.IntN.{ℤ, pos, negsuc}
 use lib.ListN.{length, length-take}
-use Rattle.scan.specs.Outcome.{Outcome, ok, require, ◌>>◌}
 use Rattle.scan.proofs.Cases.{by_test, ok-failed}
 use Rattle.scan.proofs.Decides.{Decides, fails, decided, passes, decides_and, decides_by, leb_decides}
 use Rattle.text.specs.Text.{every, text_byte, short_text}
@@ -97,16 +98,16 @@ allowed_decides f =
 
 -- ---- The checks, one after another
 
-checked : {B : Type 0} {x : B} (t : Bool) (code position : ℕ) (rest : Outcome B) → (require t code position >> rest) ≡ ok x → (t ≡ true) × (rest ≡ ok x)
+checked : {B : Type 0} {x : B} (t : Bool) (code position : ℕ) (rest : Outcome B) → (require t code position >> rest) ≡ Ok x → (t ≡ true) × (rest ≡ Ok x)
 checked true code position rest e = (refl, e)
 checked false code position rest e = absurd (ok-failed (sym e))
 
-short_checked : {B : Type 0} {x : B} (t : List ℕ) (rest : Outcome B) → (short_text t >> rest) ≡ ok x → (length t ≤ text_limit) × (rest ≡ ok x)
+short_checked : {B : Type 0} {x : B} (t : List ℕ) (rest : Outcome B) → (short_text t >> rest) ≡ Ok x → (length t ≤ text_limit) × (rest ≡ Ok x)
 unfolding short_text
 short_checked t rest e =
     by_test (leb (length t) text_limit) (λ q. (leb-true (length t) text_limit q, rw q at e)) (λ q. absurd (ok-failed (sym (rw q at e))))
 
-pub written_says : (f : Frame) (title pixels : List ℕ) {s : List ℕ} → written_file f title pixels ≡ ok s → Writes f title pixels s
+pub written_says : (f : Frame) (title pixels : List ℕ) {s : List ℕ} → written_file f title pixels ≡ Ok s → Writes f title pixels s
 unfolding written_file
 written_says f title pixels e =
     let frame = checked (frame_allowed f) 24 0 _ e in
@@ -124,7 +125,7 @@ written_says f title pixels e =
     }
 
 -- And where they are allowed, it is written.
-pub written_is : {f : Frame} {title pixels s : List ℕ} → Writes f title pixels s → written_file f title pixels ≡ ok s
+pub written_is : {f : Frame} {title pixels s : List ℕ} → Writes f title pixels s → written_file f title pixels ≡ Ok s
 unfolding written_file short_text
 written_is {f} {title} {pixels} w =
     rw (
@@ -134,4 +135,4 @@ written_is {f} {title} {pixels} w =
       le-leb (length (file_of f title pixels)) file_limit w.small,
       le-leb (length title) text_limit w.short,
     )
-    (ap ok (sym w.is))
+    (ap Ok (sym w.is))

@@ -1,8 +1,8 @@
 -- The words of the types and byte orders: each is a word, and its code is the code that it is taken by. From one computed test.
+use Rattle.std.specs.Prelude.{Option, None, Some}
 use mathlib.Core.Path.{◌≡◌, refl, ap, subst}
 use mathlib.Core.Bool.{Bool, true, false, ◌&&◌, false≢true}
 use mathlib.Core.List.{List, []}
-use mathlib.Core.Option.{Option, none, some}
 use Prim.Native.Nat.{ℕ, suc, ◌-◌, ◌≤◌, ◌<◌}
 use native.Mathlib.Omega.{arith}
 use borrow.Author.Tests.{eqb-true, leb-true}
@@ -18,17 +18,17 @@ use Rattle.frame.proofs.Allowed.{Within}
 
 -- A word of at most 20 bytes with a code.
 abbrev is_code : ℕ → Option ℕ → Bool
-is_code k none = false
-is_code k (some c) = eqb c k
+is_code k None = false
+is_code k (Some c) = eqb c k
 
-code_is : (k : ℕ) (o : Option ℕ) → is_code k o ≡ true → o ≡ some k
-code_is k none e = absurd (false≢true e)
-code_is k (some c) e = ap some (eqb-true c k e)
+code_is : (k : ℕ) (o : Option ℕ) → is_code k o ≡ true → o ≡ Some k
+code_is k None e = absurd (false≢true e)
+code_is k (Some c) e = ap Some (eqb-true c k e)
 
 pub record Coded (words : List (List ℕ)) (code : ℕ) (w : List ℕ) : Type 0 where
   pub is_word : Word w
   pub short : length w ≤ 20
-  pub code_is : code_of words w ≡ some code
+  pub code_is : code_of words w ≡ Some code
 
 abbrev coded : List (List ℕ) → ℕ → List ℕ → Bool
 coded words code w = every word_byte w && (leb 1 (length w) && (leb (length w) 20 && is_code code (code_of words w)))

@@ -44,9 +44,9 @@ module _ (f : Frame) (ok : frame_allowed f ≡ true) where
         small = record { some1 = one.low; some2 = two.low; some3 = omega arith; few1 = one.high; few2 = two.high; few3 = omega arith };
       }
 
-  pub shape_three : (f.n ≡ 1 → ⊥) → (f.n ≡ 2 → ⊥) → IsShape f (record { dim1 = f.dim1; dim2 = f.dim2; dim3 = f.dim3 })
-  shape_three h k =
-      let e : f.n ≡ 3 = omega (arith, allowed.n.low, allowed.n.high) in
+  pub shape_three : 3 ≤ f.n → IsShape f (record { dim1 = f.dim1; dim2 = f.dim2; dim3 = f.dim3 })
+  shape_three h =
+      let e : f.n ≡ 3 = omega (arith, allowed.n.high) in
       let ds : Each (Within 1 dim_limit) (f.dim1 ∷ f.dim2 ∷ f.dim3 ∷ []) = rw e at allowed.dims in
       let one = each_head ds in
       let two = each_head (each_tail ds) in

@@ -1,7 +1,7 @@
 -- The file that the writer makes, with errors 24 and 25.
-use Rattle.std.specs.Prelude.{◌≡◌, Bool, false, ◌&&◌, List, [], ◌∷◌, ◌++◌, ℕ, ◌+◌, ◌-◌, ◌*◌, ◌≤◌, eqb, leb, ℤ, pos, negsuc, length, take, get_or}
+use Rattle.std.specs.Prelude.{◌≡◌, Bool, false, ◌&&◌, List, [], ◌∷◌, ◌++◌, ℕ, ◌+◌, ◌-◌, ◌*◌, ◌≤◌, eqb, leb, ℤ, pos, negsuc, length, take, get_or, Ok}
+use Rattle.scan.specs.Outcome.{Outcome, require, ◌>>◌}
 use Rattle.scan.specs.Byte.{ascii, bytes_at}
-use Rattle.scan.specs.Outcome.{Outcome, ok, require, ◌>>◌}
 use Rattle.text.specs.Decimal.{decimal}
 use Rattle.text.specs.Text.{every, text_byte, short_text, quoted_text}
 use Rattle.blocks.specs.IdentityText.{identity_text}
@@ -84,8 +84,8 @@ written_file f title pixels = do
   require (every text_byte title) 24 0
   require (leb (length (file_of f title pixels)) file_limit) 24 0
   short_text title
-  ok (file_of f title pixels)
+  Ok (file_of f title pixels)
 
 -- A buffer that has room for every file.
 abbrev pub FitsFile : Frame → List ℕ → List ℕ → Type 0
-FitsFile f title pixels = (file : List ℕ) → written_file f title pixels ≡ ok file → length file ≤ length pixels + header_room
+FitsFile f title pixels = (file : List ℕ) → written_file f title pixels ≡ Ok file → length file ≤ length pixels + header_room

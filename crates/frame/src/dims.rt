@@ -19,25 +19,22 @@ pub fn shape_of(f: Frame) -> Shape
     requires { frame_allowed f ≡ true }
     ensures { IsShape f result }
 {
-    let n = f.n;
-    if n == 1 {
-        return Shape {
+    match f.n {
+        1 => Shape {
             dim1: f.dim1,
             dim2: 1,
             dim3: 1,
-        };
-    }
-    if n == 2 {
-        return Shape {
+        },
+        2 => Shape {
             dim1: f.dim1,
             dim2: f.dim2,
             dim3: 1,
-        };
-    }
-    Shape {
-        dim1: f.dim1,
-        dim2: f.dim2,
-        dim3: f.dim3,
+        },
+        _ => Shape {
+            dim1: f.dim1,
+            dim2: f.dim2,
+            dim3: f.dim3,
+        },
     }
 }
 

@@ -2,5 +2,4 @@
 
 // A group: sixteen bytes, as elements that stand one after another. It is moved as one element is, all its bytes read before one is
 // written.
-pub mod moving;
 pub mod orders;

@@ -1,51 +1,56 @@
 // The bytes of each element of a group reversed, and the order of its elements.
-ghost use Rattle.std.specs.Prelude.{◌≡◌, true};
+ghost use Rattle.std.specs.Prelude.{◌≡◌, true, ◌*◌, ◌/◌};
 ghost use Rattle.raster.specs.Strided.{turned, row_of};
 ghost use Rattle.groups.specs.Exchanged.{exchanged};
 
-// Sixteen bytes as elements of two, and of four: the bytes of each reversed.
-pub fn reverse_each2(b: [u8; 16]) -> [u8; 16]
-    ensures { result ≡ row_of (turned true) 2 b 0 2 0 8 }
-{
-    [
-        b[1], b[0], b[3], b[2], b[5], b[4], b[7], b[6], b[9], b[8], b[11], b[10], b[13], b[12],
-        b[15], b[14],
-    ]
+use strides::changes::{Change, Kept, Reversed};
+use strides::places::Row;
+use strides::rows::each;
+
+// Sixteen bytes as elements of W: the bytes of each reversed.
+#[derive(Drop)]
+pub struct EachReversed<const W: usize> {
+    ghost whole: { W * (16 / W) ≡ 16 },
 }
 
-pub fn reverse_each4(b: [u8; 16]) -> [u8; 16]
-    ensures { result ≡ row_of (turned true) 4 b 0 4 0 4 }
-{
-    [
-        b[3], b[2], b[1], b[0], b[7], b[6], b[5], b[4], b[11], b[10], b[9], b[8], b[15], b[14],
-        b[13], b[12],
-    ]
+impl<const W: usize> Change<16> for EachReversed<W> {
+    ghost made = { λ _ b. row_of (turned true) W b 0 W 0 (16 / W) };
+
+    fn change(&self, b: [u8; 16]) -> [u8; 16]
+        ensures { result ≡ row_of (turned true) W b 0 W 0 (16 / W) }
+    {
+        let mut r = [0; 16];
+        let row = Row {
+            at: 0,
+            up: W,
+            down: 0,
+            count: 16 / W,
+        };
+        each::<W, _>(&b, row, &Reversed, &mut r);
+        r
+    }
 }
 
-// Sixteen bytes as elements of two, of four, and of eight: the last of them first.
-pub fn exchange2(b: [u8; 16]) -> [u8; 16]
-    ensures { result ≡ exchanged 2 b }
-{
-    [
-        b[14], b[15], b[12], b[13], b[10], b[11], b[8], b[9], b[6], b[7], b[4], b[5], b[2], b[3],
-        b[0], b[1],
-    ]
+// Sixteen bytes as elements of W: the last of them first.
+#[derive(Drop)]
+pub struct Exchanged<const W: usize> {
+    ghost whole: { W * (16 / W) ≡ 16 },
 }
 
-pub fn exchange4(b: [u8; 16]) -> [u8; 16]
-    ensures { result ≡ exchanged 4 b }
-{
-    [
-        b[12], b[13], b[14], b[15], b[8], b[9], b[10], b[11], b[4], b[5], b[6], b[7], b[0], b[1],
-        b[2], b[3],
-    ]
-}
+impl<const W: usize> Change<16> for Exchanged<W> {
+    ghost made = { λ _ b. exchanged W b };
 
-pub fn exchange8(b: [u8; 16]) -> [u8; 16]
-    ensures { result ≡ exchanged 8 b }
-{
-    [
-        b[8], b[9], b[10], b[11], b[12], b[13], b[14], b[15], b[0], b[1], b[2], b[3], b[4], b[5],
-        b[6], b[7],
-    ]
+    fn change(&self, b: [u8; 16]) -> [u8; 16]
+        ensures { result ≡ exchanged W b }
+    {
+        let mut r = [0; 16];
+        let row = Row {
+            at: 16 - W,
+            up: 0,
+            down: W,
+            count: 16 / W,
+        };
+        each::<W, _>(&b, row, &Kept, &mut r);
+        r
+    }
 }

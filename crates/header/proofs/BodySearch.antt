@@ -1,27 +1,16 @@
 -- Searching for the end of a body many bytes at a time: bytes that may all stand in it are passed over.
-use mathlib.Core.Path.{◌≡◌, refl, sym, ap, ◌∙◌}
-use mathlib.Core.Bool.{Bool, true, false, not, ◌&&◌, and-true, and_assoc}
+use mathlib.Core.Path.{◌≡◌, refl, ap, ◌∙◌}
+use mathlib.Core.Bool.{Bool, true, false, not}
 use mathlib.Core.List.{List}
 use Prim.Native.Nat.{ℕ, zero, suc, ◌+◌, ◌-◌, ◌≤◌, ◌<◌}
-use native.Mathlib.Numerals.{add-one}
 use native.Mathlib.Omega.{arith}
-use lib.ListN.{length, take, drop, drop_of_length-le}
+use lib.ListN.{length, take, drop}
 use lib.Seq.{drop-cons}
 use Rattle.scan.specs.Byte.{byte}
 use Rattle.scan.specs.Search.{first_from}
 use Rattle.scan.proofs.Cases.{by_test, clash}
 use Rattle.scan.proofs.Searches.{search_miss}
 use Rattle.text.specs.Text.{every}
-
--- ---- A turn of the loop that tests each byte: r says that those before i passed
-
-module _ (p : ℕ → Bool) (l : List ℕ) (i : ℕ) (r : Bool) {e : Bool} (h : e ≡ (r && every p (drop i l))) where
-  pub tested_all : length l ≤ i → r ≡ e
-  tested_all out = sym (h ∙ rw (drop_of_length-le l out) (and-true r))
-
-  pub tested_more : {q : Bool} → i < length l → q ≡ p (byte l i) → e ≡ ((r && q) && every p (drop (i + 1) l))
-  tested_more {q} inside here =
-      rw (here, add-one i) (h ∙ rw (drop-cons l i 0 inside) (sym (and_assoc r (p (byte l i)) (every p (drop (suc i) l)))))
 
 -- ---- Bytes that are passed over
 

@@ -1,8 +1,9 @@
 -- The checks of a header's statements, without the statements, are those of `statements_of`.
+use Rattle.std.specs.Prelude.{Ok, Err}
+use Rattle.scan.specs.Outcome.{Outcome}
 use mathlib.Core.Path.{◌≡◌}
 use mathlib.Core.List.{List, map}
 use Prim.Native.Nat.{ℕ, suc}
-use Rattle.scan.specs.Outcome.{Outcome, ok, failed}
 use Rattle.scan.proofs.Cases.{by_test, by_option}
 use Rattle.text.specs.Text.{every}
 use Rattle.header.specs.Checks.{statements_checked}
@@ -14,9 +15,9 @@ use Rattle.header.proofs.Leading.{leading_is}
 
 -- The checks are those of a header's statements.
 abbrev pub Checks : List ℕ → ℕ → Header → Outcome (Unit {0}) → Type 0
-Checks s start h (ok u) =
-    (ts : List Statement) × (statements_of s start h ≡ ok ts) × (leading_statements (body_of s h) (suc h.left) ≡ ts)
-Checks s start h (failed e) = statements_of s start h ≡ failed e
+Checks s start h (Ok u) =
+    (ts : List Statement) × (statements_of s start h ≡ Ok ts) × (leading_statements (body_of s h) (suc h.left) ≡ ts)
+Checks s start h (Err e) = statements_of s start h ≡ Err e
 
 pub checked_says : (s : List ℕ) (start : ℕ) (h : Header) → Checks s start h (statements_checked (body_of s h) (suc h.left) start)
 unfolding statements_checked statements_of

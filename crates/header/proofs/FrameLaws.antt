@@ -1,8 +1,9 @@
 -- `header_at` answers the header of the grammar exactly if one stands there, and else the error of its case.
+use Rattle.std.specs.Prelude.{Some, Ok, Err}
+use Rattle.scan.specs.Outcome.{Outcome, refused}
 use mathlib.Core.Path.{◌≡◌}
 use mathlib.Core.List.{List}
 use mathlib.Core.Logic.{inr}
-use mathlib.Core.Option.{some}
 use Prim.Native.Nat.{ℕ, suc, ◌+◌, ◌-◌, ◌≤◌, ◌<◌}
 use native.Mathlib.Nat.{add-sub_cancel_left}
 use native.Mathlib.Omega.{arith}
@@ -10,8 +11,7 @@ use borrow.Author.Tests.{eqb-true, eqb-false, ne_eqb}
 use lib.Dec.{eqb}
 use lib.ListN.{length}
 use Rattle.scan.specs.Byte.{byte}
-use Rattle.scan.specs.Outcome.{Outcome, ok, failed, refused}
-use Rattle.scan.specs.Search.{first_from, position_of}
+use Rattle.scan.specs.Search.{first_from}
 use Rattle.scan.proofs.Cases.{by_test, byte_inside}
 use Rattle.scan.proofs.Finds.{by_finds, finds_some, finds_none}
 use Rattle.header.specs.Cases.{NoStart, BodyEnd, Closes, BadByte, NoEnd, FrameError}
@@ -42,8 +42,8 @@ header_order i = ((start_near i.opening).0, i.order)
 -- ---- What an answer says
 
 abbrev pub HeaderSays : List ℕ → ℕ → Outcome Header → Type 0
-HeaderSays s at (ok h) = IsHeader s at h
-HeaderSays s at (failed e) = FrameError s at e
+HeaderSays s at (Ok h) = IsHeader s at h
+HeaderSays s at (Err e) = FrameError s at e
 
 module _ (s : List ℕ) (at : ℕ) where
   -- The three parts make a header.
@@ -75,10 +75,10 @@ module _ (s : List ℕ) (at : ℕ) where
 -- ---- Each case has its answer
 
 module _ {s : List ℕ} {at : ℕ} where
-  opening_is : {left : ℕ} → StartPattern s at left → position_of (opening_at (window s at) at) ≡ some left
+  opening_is : {left : ℕ} → StartPattern s at left → (opening_at (window s at) at) ≡ Some left
   opening_is p = finds_some (finds_opening s at) (λ i. start_unique) p
 
-  end_is : {left c : ℕ} → BodyEnd s at left c → position_of (first_from ends_body (window s at) (suc left)) ≡ some c
+  end_is : {left c : ℕ} → BodyEnd s at left c → (first_from ends_body (window s at) (suc left)) ≡ Some c
   end_is {left} {c} q = finds_some (finds_end s at left) one q
     where
       one : (d : ℕ) → BodyEnd s at left d → BodyEnd s at left c → d ≡ c
@@ -116,17 +116,17 @@ module _ {s : List ℕ} {at : ℕ} where
         first = λ k l u. no_end_here (i.body k l u);
       }
 
-  closing_is : {h : Header} → IsHeader s at h → position_of (closing_at (window s at) h.right) ≡ some (at + h.length)
+  closing_is : {h : Header} → IsHeader s at h → (closing_at (window s at) h.right) ≡ Some (at + h.length)
   closing_is {h} i =
       finds_some (finds_closing s at h.right (header-end i).within (end_brace i.closing))
       (λ n p q. end_unique p.pattern q.pattern) (record { pattern = i.closing; within = omega (arith, i.short) })
 
-  pub header_complete : {h : Header} → IsHeader s at h → header_at s at ≡ ok h
+  pub header_complete : {h : Header} → IsHeader s at h → header_at s at ≡ Ok h
   unfolding header_at frame_at
   header_complete {h} i =
       let e = header-end i in
       rw (opening_is i.opening, end_is e, byte-is e, end_brace i.closing, closing_is i)
       (rw (add-sub_cancel_left at h.length))
 
-  pub header_sound : {h : Header} → header_at s at ≡ ok h → IsHeader s at h
+  pub header_sound : {h : Header} → header_at s at ≡ Ok h → IsHeader s at h
   header_sound e = rw e at (header_says s at)

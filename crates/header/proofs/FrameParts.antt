@@ -1,9 +1,9 @@
 -- The three searches of `header_at`, in its window, find the parts of the file's header: the start pattern, the first byte
 -- that ends the body, the end pattern.
+use Rattle.std.specs.Prelude.{Some}
 use mathlib.Core.Path.{◌≡◌, ◌∙◌}
 use mathlib.Core.List.{List}
 use mathlib.Core.Logic.{inl, inr, ⊎_elim}
-use mathlib.Core.Option.{some}
 use Prim.Native.Nat.{ℕ, suc, ◌+◌, ◌≤◌, ◌<◌}
 use native.Mathlib.Omega.{arith}
 use borrow.Author.Tests.{eqb-true}
@@ -12,7 +12,7 @@ use lib.ListN.{take, length-take}
 use lib.Seq.{get_or-take}
 use Rattle.scan.specs.Byte.{byte}
 use Rattle.scan.specs.First.{First}
-use Rattle.scan.specs.Search.{first_from, position_of}
+use Rattle.scan.specs.Search.{first_from}
 use Rattle.scan.proofs.Cases.{by_test, by_order}
 use Rattle.scan.proofs.Decides.{Decides, decided, refuted, passes, rejects, decides_or, eqb_decides, ltb_decides}
 use Rattle.scan.proofs.Finds.{Finds, IfSome, finds_by, finds_exactly, search_finds}
@@ -30,7 +30,7 @@ start_near (StartPattern.lf p q) = (omega arith, omega arith)
 start_near (StartPattern.crlf p q r) = (omega arith, omega arith)
 
 module _ (s : List ℕ) where
-  opening_sound : (at : ℕ) → IfSome (StartPattern s at) (position_of (opening_at s at))
+  opening_sound : (at : ℕ) → IfSome (StartPattern s at) ((opening_at s at))
   unfolding opening_at
   opening_sound at =
       by_test (eqb (byte s at) 123) (λ e. rw e (StartPattern.bare (eqb-true _ _ e)))
@@ -44,13 +44,13 @@ module _ (s : List ℕ) where
       (λ x. rw x tt)))
       (λ x. rw x tt)))))
 
-  opening_complete : {at : ℕ} (i : ℕ) → StartPattern s at i → position_of (opening_at s at) ≡ some i
+  opening_complete : {at : ℕ} (i : ℕ) → StartPattern s at i → (opening_at s at) ≡ Some i
   unfolding opening_at
   opening_complete _ (StartPattern.bare p) = rw p
   opening_complete _ (StartPattern.lf p q) = rw (p, q)
   opening_complete _ (StartPattern.crlf p q r) = rw (p, q, r)
 
-  closing_sound : (c : ℕ) → byte s c ≡ 125 → IfSome (EndPattern s c) (position_of (closing_at s c))
+  closing_sound : (c : ℕ) → byte s c ≡ 125 → IfSome (EndPattern s c) ((closing_at s c))
   unfolding closing_at
   closing_sound c b =
       by_test (eqb (byte s (c + 1)) 10) (λ e. rw e (EndPattern.lf b (eqb-true _ _ e)))
@@ -59,7 +59,7 @@ module _ (s : List ℕ) where
       (λ x. rw x tt)))
       (λ x. rw x tt)))
 
-  closing_complete : {c : ℕ} (i : ℕ) → EndPattern s c i → position_of (closing_at s c) ≡ some i
+  closing_complete : {c : ℕ} (i : ℕ) → EndPattern s c i → (closing_at s c) ≡ Some i
   unfolding closing_at
   closing_complete _ (EndPattern.lf p q) = rw q
   closing_complete _ (EndPattern.crlf p q r) = rw (q, r)
@@ -93,12 +93,12 @@ module _ (s : List ℕ) (at : ℕ) where
   pub window_byte : (k : ℕ) → k < at + 65536 → byte window k ≡ byte s k
   window_byte k l = get_or-take (at + 65536) s k 0 l
 
-  pub finds_opening : Finds (StartPattern s at) (position_of (opening_at window at))
+  pub finds_opening : Finds (StartPattern s at) ((opening_at window at))
   finds_opening =
       finds_by (λ i p. start_out (at + 65536) s p) (λ i p. start_into (at + 65536) s (omega (arith, start_near p)) p)
       (finds_exactly _ (opening_sound window at) (opening_complete window))
 
-  pub finds_end : (left : ℕ) → Finds (BodyEnd s at left) (position_of (first_from ends_body window (suc left)))
+  pub finds_end : (left : ℕ) → Finds (BodyEnd s at left) ((first_from ends_body window (suc left)))
   finds_end left = finds_by (λ c. to_end c) (λ c. to_first c) (search_finds ends_body window (suc left))
     where
       to_end : (c : ℕ) → First ends_body window (suc left) c → BodyEnd s at left c
@@ -121,7 +121,7 @@ module _ (s : List ℕ) (at : ℕ) where
             rw (window_byte k (omega (arith, e.within))) (rejects (ends_decides (byte s k)) (e.first k a b));
       }
 
-  pub finds_closing : (c : ℕ) → c < at + 65536 → byte s c ≡ 125 → Finds (Closes s at c) (position_of (closing_at window c))
+  pub finds_closing : (c : ℕ) → c < at + 65536 → byte s c ≡ 125 → Finds (Closes s at c) ((closing_at window c))
   finds_closing c l b =
       finds_by (λ i p. let o = end_out (at + 65536) s p in record { pattern = o.0; within = o.1 })
       (λ i p. end_into (at + 65536) s p.within p.pattern)

@@ -3,8 +3,7 @@ use mathlib.Core.Path.{◌≡◌, sym, ap, subst, ◌∙◌}
 use mathlib.Core.Logic.{◌≢◌}
 use mathlib.Core.Bool.{Bool, true, false, true≢false}
 use mathlib.Core.List.{List}
-use Prim.Native.Nat.{ℕ, ◌+◌, ◌*◌, ◌/◌, ◌%◌, ◌≤◌, ◌<◌}
-use native.Mathlib.Nat.{mod-lt, div-lt_iff_lt-mul, mul-le-mul}
+use Prim.Native.Nat.{ℕ, ◌+◌, ◌≤◌, ◌<◌}
 use native.Mathlib.Numerals.{add-one}
 use native.Mathlib.Omega.{arith}
 use lib.ListN.{length, get_or, set, length-set, drop, drop_of_length-le}
@@ -16,31 +15,6 @@ use Rattle.text.specs.Whitespace.{whitespace}
 use Rattle.header.specs.Hash.{mixed_key_byte, hash_from, Contains, Inserted}
 
 -- ---- The hash
-
--- A hash fits 64 bits: the product and what is added to it.
-pub low_product : (h : ℕ) → h % 4294967296 * 4294883355 ≤ 18446383545564874725
-low_product h =
-    let l : h % 4294967296 < 4294967296 = mod-lt h (omega arith) in
-    let a : h % 4294967296 ≤ 4294967295 = omega arith in
-    let b : 4294883355 ≤ 4294883355 = omega arith in
-    mul-le-mul a b
-
-pub scaled_fits : (h n : ℕ) → n < 4294967296 → h % 4294967296 * n < 18446744073709551616
-scaled_fits h n l =
-    let k : h % 4294967296 < 4294967296 = mod-lt h (omega arith) in
-    let a : h % 4294967296 ≤ 4294967295 = omega arith in
-    let b : n ≤ 4294967295 = omega arith in
-    omega (arith, mul-le-mul a b)
-
-pub high_half : (h : ℕ) → h < 18446744073709551616 → h / 4294967296 < 4294967296
-high_half h l = let k : 0 < 4294967296 = omega arith in (div-lt_iff_lt-mul {x = h} {y = 4294967296} k).1 l
-
-sum_fits : (p q b : ℕ) → p ≤ 18446383545564874725 → q < 4294967296 → b < 256 → p + q + b < 18446744073709551616
-sum_fits p q b x y z = omega arith
-
-pub mixed_fits : (h b : ℕ) → h < 18446744073709551616 → b < 256
-    → h % 4294967296 * 4294883355 + h / 4294967296 + b < 18446744073709551616
-mixed_fits h b l m = sum_fits (h % 4294967296 * 4294883355) (h / 4294967296) b (low_product h) (high_half h l) m
 
 module _ (l : List ℕ) (h i : ℕ) where
   pub hash_end : length l ≤ i → hash_from h (key_of (drop i l)) ≡ h

@@ -1,18 +1,17 @@
 -- The leading statements: an equation without a count, and the statements of a well-formed body.
+use Rattle.std.specs.Prelude.{Some, Ok, Err, None}
 use mathlib.Core.Path.{◌≡◌, refl, ap, sym, ◌∙◌}
 use mathlib.Core.List.{List, [], ◌∷◌}
-use mathlib.Core.Option.{some}
 use Prim.Native.Nat.{ℕ, zero, suc, ◌+◌, ◌-◌, ◌≤◌, ◌<◌}
 use native.Mathlib.Omega.{arith}
 use lib.ListN.{length, take, drop}
 use Rattle.scan.specs.Byte.{between}
+use Rattle.scan.proofs.Cases.{by_order}
 use Rattle.scan.proofs.Finds.{Finds, found}
 use Rattle.text.specs.Key.{key_of}
 use Rattle.header.specs.Entry.{key}
 use Rattle.header.specs.Grammar.{StatementFrom, OnlyWhitespace}
-use Rattle.header.specs.Statements.{statement_at, statements_from, followed, leading_within, leading_statements}
-use Rattle.header.specs.declared.Next.{Next}
-use Rattle.header.specs.declared.Next.TheVariants.{One, End, Malformed}
+use Rattle.header.specs.Statements.{statement_at, statements_from, followed, leading_within, leading_statements, Next, malformed}
 use Rattle.header.specs.declared.Statement.{Statement}
 use Rattle.header.proofs.OneStatement.{NextSays, statement_says, fault_dark, fault_none}
 use Rattle.header.proofs.StatementLaws.{EndToEnd, statement_inside, finds-statements}
@@ -33,34 +32,40 @@ module _ (s : List ℕ) where
   -- ---- One statement
 
   -- The statement that stands at an offset is answered there,
-  pub statement_answer : {at next : ℕ} {t : Statement} → StatementFrom s at t next → statement_at s at ≡ One t
+  pub statement_answer : {at next : ℕ} {t : Statement} → StatementFrom s at t next → statement_at s at ≡ Ok (Some t)
   statement_answer {at} {t = t} h = go (statement_at s at) (statement_says s at)
     where
-      go : (n : Next) → NextSays s at n → n ≡ One t
-      go (One u) x = ap One (statement-unique s x h).0
-      go End x = absurd (not-only-whitespace s h x)
-      go Malformed x = absurd (fault_none s at x h)
+      go : (n : Next) → NextSays s at n → n ≡ Ok (Some t)
+      go (Ok (Some u)) x = ap (λ (u : Statement). Ok (Some u)) (statement-unique s x h).0
+      go (Ok None) x = absurd (not-only-whitespace s h x)
+      go (Err m) x = absurd (fault_none s at x h)
 
   -- and the end where only whitespace is left.
-  pub end-answer : {at : ℕ} → OnlyWhitespace s at → statement_at s at ≡ End
+  pub end-answer : {at : ℕ} → OnlyWhitespace s at → statement_at s at ≡ Ok None
   end-answer {at} w = go (statement_at s at) (statement_says s at)
     where
-      go : (n : Next) → NextSays s at n → n ≡ End
-      go (One u) x = absurd (not-only-whitespace s x w)
-      go End x = refl
-      go Malformed x = absurd (fault_dark s at x w)
+      go : (n : Next) → NextSays s at n → n ≡ Ok None
+      go (Ok (Some u)) x = absurd (not-only-whitespace s x w)
+      go (Ok None) x = refl
+      go (Err m) x = absurd (fault_dark s at x w)
 
   -- What is answered stands there.
-  pub statement-stands : (at : ℕ) (t : Statement) → statement_at s at ≡ One t → StatementFrom s at t (suc t.end)
-  statement-stands at t e = let h : NextSays s at (One t) = rw e at (statement_says s at) in h
+  pub statement-stands : (at : ℕ) (t : Statement) → statement_at s at ≡ Ok (Some t) → StatementFrom s at t (suc t.end)
+  statement-stands at t e = let h : NextSays s at (Ok (Some t)) = rw e at (statement_says s at) in h
 
   -- Where it lies.
-  pub statement-lies : (at : ℕ) (t : Statement) → statement_at s at ≡ One t
+  pub statement-lies : (at : ℕ) (t : Statement) → statement_at s at ≡ Ok (Some t)
       → (at < t.end) × (t.end < length s) × (t.first ≤ t.equals) × (t.equals < t.end)
   statement-lies at t e =
       let h = statement-stands at t e in
       let i = statement_inside s h in
       (i.0, i.1, h.is.key_first, h.is.value_after)
+
+  -- What is malformed is no end.
+  pub malformed-lies : (at : ℕ) → statement_at s at ≡ Err malformed → at < length s
+  malformed-lies at e =
+      let f : NextSays s at (Err malformed) = rw e at (statement_says s at) in
+      by_order (length s) at (λ out. absurd (fault_dark s at f (λ k l u. absurd (omega arith)))) (λ l. l)
 
   -- Its key, as a part of a slice.
   pub part-key : (t : Statement) → t.first ≤ t.equals
@@ -72,11 +77,11 @@ module _ (s : List ℕ) where
 
   followed_same : (at : ℕ) (n : Next) (go on : ℕ → List Statement) → NextSays s at n
       → ((k : ℕ) → at < k → k ≤ length s → go k ≡ on k) → followed n go ≡ followed n on
-  followed_same at (One t) go on h e =
+  followed_same at (Ok (Some t)) go on h e =
       let l = statement_inside s h in
       ap (λ (ts : List Statement). t ∷ ts) (e (suc t.end) (omega (arith, l)) l.1)
-  followed_same at End go on h e = refl
-  followed_same at Malformed go on h e = refl
+  followed_same at (Ok None) go on h e = refl
+  followed_same at (Err m) go on h e = refl
 
   enough : (m n at : ℕ) → at ≤ length s → length s < at + m → length s < at + n
       → leading_within m s at ≡ leading_within n s at
@@ -96,10 +101,10 @@ module _ (s : List ℕ) where
   pub leading-one : {at next : ℕ} {t : Statement} → StatementFrom s at t next → leading_statements s at ≡ t ∷ leading_statements s next
   leading-one {at} {next} {t} h = rw (leading_step at, statement_answer h) (ap (λ (k : ℕ). t ∷ leading_statements s k) (sym h.ends))
 
-  pub leading_end : (at : ℕ) → statement_at s at ≡ End → leading_statements s at ≡ []
+  pub leading_end : (at : ℕ) → statement_at s at ≡ Ok None → leading_statements s at ≡ []
   leading_end at e = rw (leading_step at, e)
 
-  pub leading-malformed : (at : ℕ) → statement_at s at ≡ Malformed → leading_statements s at ≡ []
+  pub leading-malformed : (at : ℕ) → statement_at s at ≡ Err malformed → leading_statements s at ≡ []
   leading-malformed at e = rw (leading_step at, e)
 
   -- Statements that stand end to end lead.
@@ -107,9 +112,9 @@ module _ (s : List ℕ) where
   leading-chain at [] w = leading_end at (end-answer w)
   leading-chain at (t ∷ ts) c = leading-one c.1 ∙ ap (λ (us : List Statement). t ∷ us) (leading-chain c.0 ts c.2)
 
-  out : {P : List Statement → Type 0} {ts : List Statement} → Finds P (some ts) → P ts
+  out : {P : List Statement → Type 0} {ts : List Statement} → Finds P (Some ts) → P ts
   out (found p) = p
 
   -- All statements of a well-formed body lead.
-  pub leading_is : (at : ℕ) (ts : List Statement) → statements_from s at ≡ some ts → leading_statements s at ≡ ts
+  pub leading_is : (at : ℕ) (ts : List Statement) → statements_from s at ≡ Some ts → leading_statements s at ≡ ts
   leading_is at ts e = leading-chain at ts (out (rw e at (finds-statements s at)))

@@ -20,4 +20,5 @@ pub mod StatementLaws
 pub mod StatementSteps
 pub mod Unambiguous
 pub mod Walk
+pub mod WalkSteps
 pub mod Window

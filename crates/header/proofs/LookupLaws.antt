@@ -1,8 +1,8 @@
 -- Looking a key up in statements is looking it up in what they say; what is found is a statement; and where its value is.
+use Rattle.std.specs.Prelude.{Option, None, Some, option_map, Ok, Err}
 use mathlib.Core.Path.{◌≡◌, refl, sym, ap, ◌∙◌}
 use mathlib.Core.Bool.{true, false}
 use mathlib.Core.List.{List, [], ◌∷◌}
-use mathlib.Core.Option.{Option, none, some, map}
 use Prim.Native.Nat.{ℕ, zero, suc, ◌+◌, ◌-◌, ◌≤◌, ◌<◌}
 use native.Mathlib.Numerals.{add-one}
 use native.Mathlib.Omega.{arith}
@@ -16,9 +16,7 @@ use Rattle.header.specs.Entries.{value, span, entries, lookup}
 use Rattle.header.specs.Entry.{key, raw_value}
 use Rattle.header.specs.Grammar.{IsStatement}
 use Rattle.header.specs.Lookup.{first_statement, entry_of}
-use Rattle.header.specs.Statements.{statement_at, followed, leading_within, leading_statements}
-use Rattle.header.specs.declared.Next.{Next}
-use Rattle.header.specs.declared.Next.TheVariants.{One, End, Malformed}
+use Rattle.header.specs.Statements.{statement_at, followed, leading_within, leading_statements, Next, malformed}
 use Rattle.header.specs.declared.Statement.{Statement}
 use Rattle.header.proofs.Leading.{part_between, part_is, statement-stands, leading-one, leading_end, leading-malformed}
 use Rattle.text.proofs.ValueSpans.{value_fits, held_part}
@@ -26,7 +24,7 @@ use Rattle.header.proofs.OneStatement.{NextSays, statement_says}
 use Rattle.header.proofs.StatementLaws.{statement_inside}
 
 pub lookup_first : (s k : List ℕ) (ts : List Statement)
-    → lookup k (entries s ts) ≡ map (entry_of s) (first_statement s k ts)
+    → lookup k (entries s ts) ≡ option_map (entry_of s) (first_statement s k ts)
 unfolding lookup entries first_statement
 lookup_first s k [] = refl
 lookup_first s k (t ∷ ts) =
@@ -39,39 +37,39 @@ module _ (s k : List ℕ) (t : Statement) where
   Stands = IsStatement s t × (t.end < length s)
 
   stands_next : (at : ℕ) (next : Next) (go : ℕ → List Statement) → NextSays s at next
-      → ((i : ℕ) → first_statement s k (go i) ≡ some t → Stands) → first_statement s k (followed next go) ≡ some t → Stands
+      → ((i : ℕ) → first_statement s k (go i) ≡ Some t → Stands) → first_statement s k (followed next go) ≡ Some t → Stands
   unfolding first_statement
-  stands_next at (One u) go h rest e =
+  stands_next at (Ok (Some u)) go h rest e =
       by_test (same (key s u) k)
-      (λ q. let f : ◌≡◌ {A = Option Statement} (some u) (some t) = rw q at e in
+      (λ q. let f : ◌≡◌ {A = Option Statement} (Some u) (Some t) = rw q at e in
       let g : u ≡ t = cc in
       rw (sym g) (h.is, (statement_inside s h).1))
       (λ q. rest (suc u.end) (rw q at e))
-  stands_next at End go h rest e = absurd (none_some e)
-  stands_next at Malformed go h rest e = absurd (none_some e)
+  stands_next at (Ok None) go h rest e = absurd (none_some e)
+  stands_next at (Err m) go h rest e = absurd (none_some e)
 
-  stands_within : (n at : ℕ) → first_statement s k (leading_within n s at) ≡ some t → Stands
+  stands_within : (n at : ℕ) → first_statement s k (leading_within n s at) ≡ Some t → Stands
   unfolding leading_within first_statement
   stands_within zero at e = absurd (none_some e)
   stands_within (suc n) at e = stands_next at (statement_at s at) _ (statement_says s at) (λ i f. stands_within n i f) e
 
-  pub first_stands : (at : ℕ) → first_statement s k (leading_statements s at) ≡ some t → IsStatement s t × (t.end < length s)
+  pub first_stands : (at : ℕ) → first_statement s k (leading_statements s at) ≡ Some t → IsStatement s t × (t.end < length s)
   unfolding leading_statements
   first_stands at e = stands_within (suc (length s)) at e
 
 -- ---- The turns of a loop
 
 module _ (s k : List ℕ) (at : ℕ) where
-  pub first_end : statement_at s at ≡ End → first_statement s k (leading_statements s at) ≡ none
+  pub first_end : statement_at s at ≡ Ok None → first_statement s k (leading_statements s at) ≡ None
   unfolding first_statement
   first_end e = rw (leading_end s at e)
 
-  pub first_malformed : statement_at s at ≡ Malformed → first_statement s k (leading_statements s at) ≡ none
+  pub first_malformed : statement_at s at ≡ Err malformed → first_statement s k (leading_statements s at) ≡ None
   unfolding first_statement
   first_malformed e = rw (leading-malformed s at e)
 
-  module _ (t : Statement) (e : statement_at s at ≡ One t) (j : List ℕ) (is_key : j ≡ key s t) where
-    pub first_hit : same j k ≡ true → first_statement s k (leading_statements s at) ≡ some t
+  module _ (t : Statement) (e : statement_at s at ≡ Ok (Some t)) (j : List ℕ) (is_key : j ≡ key s t) where
+    pub first_hit : same j k ≡ true → first_statement s k (leading_statements s at) ≡ Some t
     unfolding first_statement
     first_hit q = rw (leading-one s (statement-stands s at t e), sym is_key, q)
 

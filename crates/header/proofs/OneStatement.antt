@@ -1,4 +1,5 @@
 -- One statement: `statement_at` answers a statement of the grammar, that only whitespace is left, or that something is wrong.
+use Rattle.std.specs.Prelude.{Option, ℕ, Some, None, Ok, Err}
 use mathlib.Core.Path.{◌≡◌, refl, ap}
 use mathlib.Core.Bool.{false}
 use mathlib.Core.List.{List}
@@ -9,32 +10,28 @@ use borrow.Author.Tests.{eq-eqb, ne_eqb, eqb-true, eqb-false, lt-ltb, le-ltb, no
 use Rattle.scan.specs.Byte.{byte}
 use Rattle.scan.specs.First.{First}
 use Rattle.scan.specs.Search.{first_from, is}
-use Rattle.scan.specs.declared.Found.{Found}
-use Rattle.scan.specs.declared.Found.TheVariants.{At, Nothing}
 use Rattle.scan.proofs.Cases.{by_order, byte_inside, clash}
 use Rattle.scan.proofs.Searches.{FoundSays, search_says, first_unique}
 use Rattle.text.specs.Whitespace.{whitespace, visible}
 use Rattle.header.specs.Cases.{Fault, tail, no-equals, empty_key}
 use Rattle.header.specs.Grammar.{IsStatement, StatementFrom, OnlyWhitespace}
-use Rattle.header.specs.Statements.{next_by, statement_at}
-use Rattle.header.specs.declared.Next.{Next}
-use Rattle.header.specs.declared.Next.TheVariants.{One, End, Malformed}
+use Rattle.header.specs.Statements.{next_by, statement_at, Next}
 use Rattle.header.specs.declared.Statement.{Statement}
 use Rattle.header.proofs.KeyLaws.{visible-key, whitespace-key}
 use Rattle.header.proofs.Unambiguous.{equals_first, end_first}
 
 -- What an answer of `statement_at` says.
 abbrev pub NextSays : List ℕ → ℕ → Next → Type 0
-NextSays s at (One t) = StatementFrom s at t (suc t.end)
-NextSays s at End = OnlyWhitespace s at
-NextSays s at Malformed = Fault s at
+NextSays s at (Ok (Some t)) = StatementFrom s at t (suc t.end)
+NextSays s at (Ok None) = OnlyWhitespace s at
+NextSays s at (Err m) = Fault s at
 
 module _ (s : List ℕ) (at : ℕ) where
   not_only : {d : ℕ} → First visible s at d → OnlyWhitespace s at → ⊥
   unfolding visible
   not_only {d} D w = clash (whitespace (byte s d)) (w d D.from D.inside) (not-true _ D.here)
 
-  only : FoundSays visible s at Nothing → OnlyWhitespace s at
+  only : FoundSays visible s at None → OnlyWhitespace s at
   unfolding visible
   only D k l u = not-false (whitespace (byte s k)) (D k l u)
 
@@ -69,20 +66,20 @@ module _ (s : List ℕ) (at : ℕ) where
     unequal fe =
         no-equals F.from (eqb-true _ _ F.here) (λ k l u. (eqb-false _ _ (E.before k l (omega arith)), eqb-false _ _ (F.before k l u)))
 
-    three : NextSays s at (next_by at (At d) (At f) (At e))
+    three : NextSays s at (next_by at (Some d) (Some f) (Some e))
     three =
         by_order e d (λ ed. rw (le-ltb d e ed) (empty ed))
         (λ de. by_order f e (λ fe. rw (lt-ltb d e de, le-ltb e f fe) (unequal fe))
         (λ ef. rw (lt-ltb d e de, lt-ltb e f ef) (record { starts = refl; is = good de ef; ends = refl })))
 
-  by_found : (d f e : Found) → FoundSays visible s at d → FoundSays (is 59) s at f → FoundSays (is 61) s at e
+  by_found : (d f e : Option ℕ) → FoundSays visible s at d → FoundSays (is 59) s at f → FoundSays (is 61) s at e
       → NextSays s at (next_by at d f e)
-  by_found Nothing f e D F E = only D
-  by_found (At d) Nothing e D F E = tail (not_only D) (λ k l u. eqb-false _ _ (F k l u))
-  by_found (At d) (At f) Nothing D F E =
+  by_found None f e D F E = only D
+  by_found (Some d) None e D F E = tail (not_only D) (λ k l u. eqb-false _ _ (F k l u))
+  by_found (Some d) (Some f) None D F E =
       no-equals F.from (eqb-true _ _ F.here)
       (λ k l u. (eqb-false _ _ (E k l (omega (arith, F.inside))), eqb-false _ _ (F.before k l u)))
-  by_found (At d) (At f) (At e) D F E = three d f e D F E
+  by_found (Some d) (Some f) (Some e) D F E = three d f e D F E
 
   pub statement_says : NextSays s at (statement_at s at)
   unfolding statement_at

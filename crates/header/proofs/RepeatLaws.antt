@@ -1,6 +1,7 @@
 -- Whether a key is that of a statement before: by a hash table, with an exact comparison where the hash is in it already.
+use Rattle.std.specs.Prelude.{Ok, Err, Some, None}
 use mathlib.Core.Path.{◌≡◌, refl, sym, subst, ◌∙◌}
-use mathlib.Core.Bool.{Bool, true, false, not, ◌||◌, not-not}
+use mathlib.Core.Bool.{Bool, false, ◌||◌}
 use mathlib.Core.List.Memᴰ
 use mathlib.Core.List.{List, [], ◌∷◌, ◌++◌, map}
 use mathlib.Core.Logic.{⊎_elim}
@@ -9,15 +10,13 @@ use native.Mathlib.Omega.{arith}
 use borrow.Author.Tests.{lt-ltb, le-ltb}
 use lib.ListN.{length}
 use Rattle.scan.specs.Byte.{same}
-use Rattle.scan.proofs.Cases.{by_test, clash}
+use Rattle.scan.proofs.Cases.{by_test}
 use Rattle.scan.proofs.Decides.{decided, refuted, passes, rejects, same_decides}
 use Rattle.header.specs.Entry.{key}
 use Rattle.header.specs.Hash.{hash_of, slot_of, Contains, Inserted, ContainsKeys}
 use Rattle.header.specs.Lookup.{first_statement}
-use Rattle.header.specs.Repeats.{StatementsTo, starts_before, KeyInserted, StillDistinct}
-use Rattle.header.specs.Statements.{statement_at, followed, leading_within, leading_statements, among}
-use Rattle.header.specs.declared.Next.{Next}
-use Rattle.header.specs.declared.Next.TheVariants.{One, End, Malformed}
+use Rattle.header.specs.Repeats.{StatementsTo, starts_before, KeyInserted}
+use Rattle.header.specs.Statements.{statement_at, followed, leading_within, leading_statements, among, Next}
 use Rattle.header.specs.declared.Statement.{Statement}
 use Rattle.header.proofs.Leading.{leading-one}
 use Rattle.header.proofs.Rules.{among_decides}
@@ -41,12 +40,12 @@ module _ (s : List ℕ) where
       → ((i : ℕ) → to ≤ i → starts_before to (first_statement s k (leading_within n s i)) ≡ false)
       → starts_before to (first_statement s k (followed next (λ i. leading_within n s i))) ≡ false
   unfolding first_statement
-  not_before_next to n at k (One t) h l rest =
+  not_before_next to n at k (Ok (Some t)) h l rest =
       by_test (same (key s t) k)
       (λ e. rw e (le-ltb t.first to (omega (arith, h.starts))))
       (λ e. rw e (rest (suc t.end) (omega (arith, statement_inside s h))))
-  not_before_next to n at k End h l rest = refl
-  not_before_next to n at k Malformed h l rest = refl
+  not_before_next to n at k (Ok None) h l rest = refl
+  not_before_next to n at k (Err m) h l rest = refl
 
   not_before : (to n at : ℕ) (k : List ℕ) → to ≤ at → starts_before to (first_statement s k (leading_within n s at)) ≡ false
   unfolding leading_within first_statement
@@ -111,14 +110,3 @@ module _ (s : List ℕ) (from to slots : ℕ) (k l l' : List ℕ) where
     repeated = λ ts c h. b ∙ earlier_among s k from to ts c;
     contained = contained_more (at_slot e f a);
   }
-
--- ---- The key of a statement, as long as those before are distinct
-
-module _ (s : List ℕ) (from slots : ℕ) (t : Statement) (d : Bool) {l l' : List ℕ} where
-  pub still_skipped : d ≡ false → StillDistinct s from slots t d l l' false
-  still_skipped e = record { skipped = λ f. refl; inserted = λ f. absurd (clash d f e) }
-
-  pub still_inserted : {k : List ℕ} (b : Bool) → d ≡ true → k ≡ key s t → KeyInserted s from t.first slots k l l' b
-      → StillDistinct s from slots t d l l' (not b)
-  still_inserted b e is_key h =
-      record { skipped = λ f. absurd (clash d e f); inserted = λ f. rw (not-not b, sym is_key) h }

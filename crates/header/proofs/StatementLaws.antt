@@ -1,13 +1,12 @@
 -- `statements_of` answers the parse of the grammar exactly if there is one, and else the error of its case.
+use Rattle.std.specs.Prelude.{Option, None, Some, Ok, Err, option_map}
+use Rattle.scan.specs.Outcome.{Outcome, refused}
 use mathlib.Core.Path.{◌≡◌, refl, sym}
 use mathlib.Core.List.{List, [], ◌∷◌, map}
-use mathlib.Core.Option
-use mathlib.Core.Option.{Option, none, some}
 use Prim.Native.Nat.{ℕ, zero, suc, ◌+◌, ◌≤◌, ◌<◌}
 use native.Mathlib.Omega.{arith}
 use lib.ListN.{length}
 use Rattle.scan.specs.Chain.{Chain}
-use Rattle.scan.specs.Outcome.{Outcome, ok, failed, refused}
 use Rattle.scan.proofs.Cases.{by_test, none_some}
 use Rattle.scan.proofs.Chains.{chain_unique}
 use Rattle.scan.proofs.Decides.{decided, refuted, passes, rejects}
@@ -16,11 +15,9 @@ use Rattle.text.specs.Text.{every}
 use Rattle.header.specs.Cases.{Broken, BrokenBody, TooLong, KeyTwice, StatementsError}
 use Rattle.header.specs.Entry.{body_of, key}
 use Rattle.header.specs.Grammar.{StatementFrom, OnlyWhitespace, Parse}
-use Rattle.header.specs.Statements.{statement_at, continued, statements_within, statements_from}
+use Rattle.header.specs.Statements.{statement_at, continued, statements_within, statements_from, Next}
 use Rattle.header.specs.Statements.{is_short, are_distinct, statements_of}
 use Rattle.header.specs.declared.Header.{Header}
-use Rattle.header.specs.declared.Next.{Next}
-use Rattle.header.specs.declared.Next.TheVariants.{One, End, Malformed}
 use Rattle.header.specs.declared.Statement.{Statement}
 use Rattle.header.proofs.OneStatement.{NextSays, statement_says, fault_dark, fault_none}
 use Rattle.header.proofs.Rules.{all_short_decides, one_long, distinct_decides}
@@ -38,7 +35,7 @@ module _ (s : List ℕ) where
   statement_inside h = (omega (arith, h.starts, h.is.key_first, h.is.value_after), (end_first s h.is).inside)
 
   prepend : {at : ℕ} {t : Statement} {o : Option (List Statement)} → StatementFrom s at t (suc t.end)
-      → Finds (EndToEnd (suc t.end)) o → Finds (EndToEnd at) (Option.map (λ (ts : List Statement). t ∷ ts) o)
+      → Finds (EndToEnd (suc t.end)) o → Finds (EndToEnd at) (option_map (λ (ts : List Statement). t ∷ ts) o)
   prepend {t = t} h (found {x = ts} c) = found {x = t ∷ ts} (suc t.end, h, c)
   prepend {at} {t} h (missing n) = missing none_here
     where
@@ -48,11 +45,11 @@ module _ (s : List ℕ) where
 
   finds-continued : (at : ℕ) (next : Next) (go : ℕ → Option (List Statement)) → NextSays s at next
       → ((k : ℕ) → at < k → k ≤ length s → Finds (EndToEnd k) (go k)) → Finds (EndToEnd at) (continued next go)
-  finds-continued at (One t) go h more =
+  finds-continued at (Ok (Some t)) go h more =
       let l = statement_inside h in
       prepend h (more (suc t.end) (omega (arith, l)) l.1)
-  finds-continued at End go h more = found {x = []} h
-  finds-continued at Malformed go h more = missing none_here
+  finds-continued at (Ok None) go h more = found {x = []} h
+  finds-continued at (Err m) go h more = missing none_here
     where
       none_here : (ts : List Statement) → EndToEnd at ts → ⊥
       none_here [] w = fault_dark s at h w
@@ -69,7 +66,7 @@ module _ (s : List ℕ) where
   unfolding statements_from
   finds-statements at = finds-within (length s) at (omega arith)
 
-  pub statements_are : (at : ℕ) (ts : List Statement) → EndToEnd at ts → statements_from s at ≡ some ts
+  pub statements_are : (at : ℕ) (ts : List Statement) → EndToEnd at ts → statements_from s at ≡ Some ts
   statements_are at ts c =
       finds_some (finds-statements at) (λ us. chain_unique (statements-sure s) at us ts) c
 
@@ -83,24 +80,24 @@ module _ (s : List ℕ) where
   }
 
   continued-broken : (at : ℕ) (next : Next) (go : ℕ → Option (List Statement)) → NextSays s at next
-      → ((k : ℕ) → at < k → k ≤ length s → go k ≡ none → Broken s k) → continued next go ≡ none → Broken s at
-  continued-broken at (One t) go h more e =
+      → ((k : ℕ) → at < k → k ≤ length s → go k ≡ None → Broken s k) → continued next go ≡ None → Broken s at
+  continued-broken at (Ok (Some t)) go h more e =
       let l = statement_inside h in
       broken-more h (more (suc t.end) (omega (arith, l)) l.1 (map-none (go (suc t.end)) e))
     where
-      map-none : (o : Option (List Statement)) → Option.map (λ (ts : List Statement). t ∷ ts) o ≡ none → o ≡ none
-      map-none none q = refl
-      map-none (some ts) q = absurd (none_some (sym q))
-  continued-broken at End go h more e = absurd (none_some (sym e))
-  continued-broken at Malformed go h more e = record { statements = []; end = at; before = refl; fault = h }
+      map-none : (o : Option (List Statement)) → option_map (λ (ts : List Statement). t ∷ ts) o ≡ None → o ≡ None
+      map-none None q = refl
+      map-none (Some ts) q = absurd (none_some (sym q))
+  continued-broken at (Ok None) go h more e = absurd (none_some (sym e))
+  continued-broken at (Err m) go h more e = record { statements = []; end = at; before = refl; fault = h }
 
-  within-broken : (n at : ℕ) → length s ≤ at + n → statements_within (suc n) s at ≡ none → Broken s at
+  within-broken : (n at : ℕ) → length s ≤ at + n → statements_within (suc n) s at ≡ None → Broken s at
   unfolding statements_within
   within-broken zero at h e = continued-broken at (statement_at s at) _ (statement_says s at) (λ k l u q. absurd (omega arith)) e
   within-broken (suc n) at h e =
       continued-broken at (statement_at s at) _ (statement_says s at) (λ k l u q. within-broken n k (omega arith) q) e
 
-  pub statements-broken : (at : ℕ) → statements_from s at ≡ none → Broken s at
+  pub statements-broken : (at : ℕ) → statements_from s at ≡ None → Broken s at
   unfolding statements_from
   statements-broken at e = within-broken (length s) at (omega arith) e
 
@@ -114,15 +111,15 @@ module _ (s : List ℕ) where
       go at (t ∷ ts) [] d w = not-only-whitespace s d.1 w
       go at (t ∷ ts) (u ∷ us) d f = go d.0 ts us d.2 (rw (statement-unique s d.1 f.1).1 f.2)
 
-  pub statements-none : {at : ℕ} → Broken s at → statements_from s at ≡ none
+  pub statements-none : {at : ℕ} → Broken s at → statements_from s at ≡ None
   statements-none {at} b = finds_none (finds-statements at) (broken-none b)
 
 -- ---- The statements of a header
 
 -- What an answer says.
 abbrev pub StatementsSays : List ℕ → ℕ → Header → Outcome (List Statement) → Type 0
-StatementsSays s at h (ok ts) = Parse s h ts
-StatementsSays s at h (failed e) = StatementsError s h at e
+StatementsSays s at h (Ok ts) = Parse s h ts
+StatementsSays s at h (Err e) = StatementsError s h at e
 
 module _ (s : List ℕ) (at : ℕ) (h : Header) where
   abbrev body : List ℕ
@@ -165,7 +162,7 @@ module _ (s : List ℕ) (at : ℕ) (h : Header) where
         rejects (distinct_decides (map (key body) ts)) k.twice,
       )
 
-  pub statements_complete : {ts : List Statement} → Parse s h ts → statements_of s at h ≡ ok ts
+  pub statements_complete : {ts : List Statement} → Parse s h ts → statements_of s at h ≡ Ok ts
   unfolding statements_of
   statements_complete {ts} p =
       rw (
@@ -174,5 +171,5 @@ module _ (s : List ℕ) (at : ℕ) (h : Header) where
         passes (distinct_decides (map (key body) ts)) p.distinct,
       )
 
-  pub statements_sound : {ts : List Statement} → statements_of s at h ≡ ok ts → Parse s h ts
+  pub statements_sound : {ts : List Statement} → statements_of s at h ≡ Ok ts → Parse s h ts
   statements_sound e = rw e at statements_says

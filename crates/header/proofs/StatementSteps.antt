@@ -1,5 +1,6 @@
 -- `statement_at` step by step, as the code takes it: the first visible byte, the first `=` or `;` from there, and the `;`
 -- after the `=`.
+use Rattle.std.specs.Prelude.{Option, ℕ, Some, None, Ok, Err}
 use mathlib.Core.Path.{◌≡◌, refl, ap}
 use mathlib.Core.Bool.{true, false, true≢false}
 use mathlib.Core.List.{List}
@@ -11,14 +12,11 @@ use lib.ListN.{length}
 use Rattle.scan.specs.Byte.{byte}
 use Rattle.scan.specs.First.{First, Without}
 use Rattle.scan.specs.Search.{first_from, is}
-use Rattle.scan.specs.declared.Found.{Found}
-use Rattle.scan.specs.declared.Found.TheVariants.{At, Nothing}
 use Rattle.scan.proofs.Cases.{by_test, by_order, clash}
 use Rattle.scan.proofs.Searches.{FoundSays, search_says, search_is}
 use Rattle.text.specs.Whitespace.{whitespace, visible}
 use Rattle.header.specs.Checks.{separator}
-use Rattle.header.specs.Statements.{next_by, statement_at}
-use Rattle.header.specs.declared.Next.TheVariants.{One, End, Malformed}
+use Rattle.header.specs.Statements.{next_by, statement_at, malformed}
 
 -- ---- The bytes
 
@@ -52,34 +50,34 @@ whitespace-byte b e =
 -- ---- The steps
 
 module _ (s : List ℕ) (at : ℕ) where
-  pub nothing_more : first_from visible s at ≡ Nothing → statement_at s at ≡ End
+  pub nothing_more : first_from visible s at ≡ None → statement_at s at ≡ Ok None
   unfolding statement_at
   nothing_more e = rw e
 
-  module _ {d : ℕ} (seen : first_from visible s at ≡ At d) where
+  module _ {d : ℕ} (seen : first_from visible s at ≡ Some d) where
     start : First visible s at d
     start = rw seen at (search_says visible s at)
 
     -- It is malformed where no `=` and `;` stand in order after the first visible byte.
-    malformed : ((e f : ℕ) → First (is 61) s at e → First (is 59) s at f → d < e → e < f → ⊥) → statement_at s at ≡ Malformed
+    broken : ((e f : ℕ) → First (is 61) s at e → First (is 59) s at f → d < e → e < f → ⊥) → statement_at s at ≡ Err malformed
     unfolding statement_at
-    malformed n =
+    broken n =
         rw seen (go (first_from (is 59) s at) (first_from (is 61) s at) (search_says (is 59) s at) (search_says (is 61) s at))
       where
-        go : (f e : Found) → FoundSays (is 59) s at f → FoundSays (is 61) s at e → next_by at (At d) f e ≡ Malformed
-        go Nothing e F E = refl
-        go (At f) Nothing F E = refl
-        go (At f) (At e) F E =
+        go : (f e : Option ℕ) → FoundSays (is 59) s at f → FoundSays (is 61) s at e → next_by at (Some d) f e ≡ Err malformed
+        go None e F E = refl
+        go (Some f) None F E = refl
+        go (Some f) (Some e) F E =
             by_order e d (λ ed. rw (le-ltb d e ed))
             (λ de. by_order f e (λ fe. rw (lt-ltb d e de, le-ltb e f fe)) (λ ef. absurd (n e f E F de ef)))
 
-    pub no-separator : first_from separator s d ≡ Nothing → statement_at s at ≡ Malformed
+    pub no-separator : first_from separator s d ≡ None → statement_at s at ≡ Err malformed
     no-separator e =
         let w : Without separator s d (length s) = rw e at (search_says separator s d) in
-        malformed (λ e f E F de ef. clash (separator (byte s e)) (equals_separates (byte s e) E.here)
+        broken (λ e f E F de ef. clash (separator (byte s e)) (equals_separates (byte s e) E.here)
         (w e (omega arith) E.inside))
 
-    module _ {m : ℕ} (mark : first_from separator s d ≡ At m) where
+    module _ {m : ℕ} (mark : first_from separator s d ≡ Some m) where
       separated : First separator s d m
       separated = rw mark at (search_says separator s d)
 
@@ -91,10 +89,10 @@ module _ (s : List ℕ) (at : ℕ) where
       pub mark_inside : (d ≤ m) × (m < length s)
       mark_inside = (separated.from, separated.inside)
 
-      pub semicolon_first : (byte s m ≡ 61 → ⊥) → statement_at s at ≡ Malformed
+      pub semicolon_first : (byte s m ≡ 61 → ⊥) → statement_at s at ≡ Err malformed
       semicolon_first n =
           let semicolon : eqb (byte s m) 59 ≡ true = other_separator (byte s m) separated.here n in
-          malformed (λ e f E F de ef. by_order f m
+          broken (λ e f E F de ef. by_order f m
           (λ fm. by_order e m (λ em. clash (separator (byte s e)) (equals_separates (byte s e) E.here)
           (plain_before e E.from (omega arith))) (λ me. omega arith))
           (λ mf. clash (eqb (byte s m) 59) semicolon
@@ -110,9 +108,9 @@ module _ (s : List ℕ) (at : ℕ) where
           before = λ k l u. (plain_byte (byte s k) (plain_before k l u)).0;
         }
 
-        pub empty_key : m ≡ d → statement_at s at ≡ Malformed
+        pub empty_key : m ≡ d → statement_at s at ≡ Err malformed
         empty_key q =
-            malformed (λ e f E F de ef. clash (eqb (byte s m) 61) first_equals.here
+            broken (λ e f E F de ef. clash (eqb (byte s m) 61) first_equals.here
             (E.before m first_equals.from (omega arith)))
 
         -- No `;` stands up to the mark.
@@ -124,14 +122,14 @@ module _ (s : List ℕ) (at : ℕ) where
             absurd (omega (arith, eqb-true (byte s f) 59 e, equals, ap (byte s) q)))
             (λ fm. absurd (clash (eqb (byte s f) 59) e (plain_byte (byte s f) (plain_before f l fm)).1)))
 
-        pub unended : first_from (is 59) s (m + 1) ≡ Nothing → statement_at s at ≡ Malformed
+        pub unended : first_from (is 59) s (m + 1) ≡ None → statement_at s at ≡ Err malformed
         unended e =
             let w : Without (is 59) s (m + 1) (length s) = rw e at (search_says (is 59) s (m + 1)) in
-            malformed (λ e f E F de ef. clash (eqb (byte s f) 59) F.here
+            broken (λ e f E F de ef. clash (eqb (byte s f) 59) F.here
             (w f (after_mark f F.from F.here) F.inside))
 
-        pub whole_statement : {f : ℕ} → (m ≡ d → ⊥) → first_from (is 59) s (m + 1) ≡ At f
-            → statement_at s at ≡ One (record { first = at; equals = m; end = f })
+        pub whole_statement : {f : ℕ} → (m ≡ d → ⊥) → first_from (is 59) s (m + 1) ≡ Some f
+            → statement_at s at ≡ Ok (Some (record { first = at; equals = m; end = f }))
         unfolding statement_at
         whole_statement {f} n e =
             let F : First (is 59) s (m + 1) f = rw e at (search_says (is 59) s (m + 1)) in

@@ -1,4 +1,6 @@
 -- The walk over a header's statements that makes all checks: its turns, and its answers.
+use Rattle.std.specs.Prelude.{Ok, Err, Some, None}
+use Rattle.scan.specs.Outcome.{refused}
 use mathlib.Core.Path.{◌≡◌, refl, sym, ap, ◌∙◌}
 use mathlib.Core.Bool.{Bool, true, false, not, ◌&&◌, ◌||◌, and-true, and-false, and_assoc, or-false, or_assoc, not-not}
 use mathlib.Core.List.Memᴰ
@@ -6,7 +8,6 @@ use mathlib.Core.List.{List, [], ◌∷◌, ◌++◌, map}
 use Prim.Native.Nat.{ℕ, suc, ◌+◌}
 use native.Mathlib.Numerals.{add-one}
 use Rattle.scan.specs.Byte.{same}
-use Rattle.scan.specs.Outcome.{ok, refused}
 use Rattle.scan.proofs.Cases.{by_test, clash}
 use Rattle.scan.proofs.Chains.{chain_more}
 use Rattle.text.specs.Text.{every}
@@ -15,8 +16,7 @@ use Rattle.header.specs.Entry.{key}
 use Rattle.header.specs.Grammar.{StatementFrom, OnlyWhitespace}
 use Rattle.header.specs.Hash.{ContainsKeys}
 use Rattle.header.specs.Repeats.{StatementsTo, StillDistinct}
-use Rattle.header.specs.Statements.{statement_at, is_short, among, are_distinct}
-use Rattle.header.specs.declared.Next.TheVariants.{One, End, Malformed}
+use Rattle.header.specs.Statements.{statement_at, is_short, among, are_distinct, malformed}
 use Rattle.header.specs.declared.Statement.{Statement}
 use Rattle.header.proofs.Leading.{statement-stands}
 use Rattle.header.proofs.OneStatement.{NextSays, statement_says}
@@ -79,7 +79,7 @@ module _ (s : List ℕ) (from slots : ℕ) {l : List ℕ} (short distinct : Bool
 
   -- ---- A turn
 
-  module _ (t : Statement) (e : statement_at s at ≡ One t) {l' : List ℕ} (r : Bool) (h : StillDistinct s from slots t distinct l l' r) where
+  module _ (t : Statement) (e : statement_at s at ≡ Ok (Some t)) {l' : List ℕ} (r : Bool) (h : StillDistinct s from slots t distinct l l' r) where
     -- They stand up to where t starts.
     up_to_first : StatementsTo s from p.statements t.first
     up_to_first = rw (statement-stands s at t e).starts p.chain
@@ -111,30 +111,18 @@ module _ (s : List ℕ) (from slots : ℕ) {l : List ℕ} (short distinct : Bool
   -- ---- The end
 
   module _ (start : ℕ) where
-    pub passed_malformed : statement_at s at ≡ Malformed → statements_checked s from start ≡ refused 6 start
+    pub passed_malformed : statement_at s at ≡ Err malformed → statements_checked s from start ≡ refused 6 start
     unfolding statements_checked
     passed_malformed e =
-        let fault : NextSays s at Malformed = rw e at (statement_says s at) in
+        let fault : NextSays s at (Err malformed) = rw e at (statement_says s at) in
         rw (statements-none s (record { statements = p.statements; end = at; before = p.chain; fault = fault }))
 
     end_to_end : (k : ℕ) (ts : List Statement) → StatementsTo s k ts at → OnlyWhitespace s at → EndToEnd s k ts
     end_to_end k [] c w = rw c w
     end_to_end k (t ∷ ts) c w = (c.0, c.1, end_to_end c.0 ts c.2 w)
 
-    pub passed_end : statement_at s at ≡ End → statements_checked s from start ≡ rules_checked short distinct start
+    pub passed_end : statement_at s at ≡ Ok None → statements_checked s from start ≡ rules_checked short distinct start
     unfolding statements_checked
     passed_end e =
-        let rest : NextSays s at End = rw e at (statement_says s at) in
+        let rest : NextSays s at (Ok None) = rw e at (statement_says s at) in
         rw (statements_are s from p.statements (end_to_end from p.statements p.chain rest), p.all_short, p.all_distinct)
-
--- ---- The answer at the end
-
-module _ (short distinct : Bool) (start : ℕ) where
-  pub answer_long : short ≡ false → refused 7 start ≡ rules_checked short distinct start
-  answer_long e = rw e
-
-  pub answer_repeated : short ≡ true → distinct ≡ false → refused 8 start ≡ rules_checked short distinct start
-  answer_repeated e d = rw (e, d)
-
-  pub answer_good : short ≡ true → distinct ≡ true → ok tt ≡ rules_checked short distinct start
-  answer_good e d = rw (e, d)

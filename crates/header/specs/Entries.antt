@@ -1,7 +1,5 @@
 -- What statements say, as functions: their values, and where these stand in the file; and a key looked up.
-use Rattle.std.specs.Prelude.{cond, List, [], ◌∷◌, map, ℕ, suc, ◌+◌}
-use Rattle.std.proofs.Math.Option
-use Rattle.std.proofs.Math.Option.{Option, none, some}
+use Rattle.std.specs.Prelude.{cond, List, [], ◌∷◌, map, ℕ, suc, ◌+◌, Option, None, Some, option_map}
 use Rattle.scan.specs.Byte.{same}
 use Rattle.scan.specs.declared.Span.{Span}
 use Rattle.text.specs.Value.{trimmed, value_span, value_of}
@@ -27,9 +25,9 @@ entries s ts = map (λ (t : Statement). record { key = key s t; value = value s 
 
 -- The entry of a key, if there is one.
 unfoldable pub lookup : List ℕ → List Entry → Option Entry
-lookup k [] = none
-lookup k (e ∷ es) = let r = lookup k es in cond (same e.key k) (some e) r
+lookup k [] = None
+lookup k (e ∷ es) = let r = lookup k es in cond (same e.key k) (Some e) r
 
 -- Its value.
 abbrev pub value_in : List ℕ → List Entry → Option (List ℕ)
-value_in k es = Option.map (λ (e : Entry). e.value) (lookup k es)
+value_in k es = option_map (λ (e : Entry). e.value) (lookup k es)

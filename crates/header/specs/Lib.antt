@@ -1,4 +1,3 @@
-pub mod Answers
 pub mod Cases
 pub mod Checks
 pub mod Entries
@@ -10,3 +9,5 @@ pub mod Limits
 pub mod Lookup
 pub mod Repeats
 pub mod Statements
+pub mod Tests
+pub mod Walks

@@ -1,6 +1,5 @@
 -- Looking a key up in a list of statements.
-use Rattle.std.specs.Prelude.{cond, List, [], ◌∷◌, ℕ}
-use Rattle.std.proofs.Math.Option.{Option, none, some}
+use Rattle.std.specs.Prelude.{cond, List, [], ◌∷◌, ℕ, Option, None, Some}
 use Rattle.scan.specs.Byte.{same}
 use Rattle.header.specs.Entries.{value, span}
 use Rattle.header.specs.Entry.{Entry, key}
@@ -8,8 +7,8 @@ use Rattle.header.specs.declared.Statement.{Statement}
 
 -- The first statement whose key is k.
 unfoldable pub first_statement : List ℕ → List ℕ → List Statement → Option Statement
-first_statement s k [] = none
-first_statement s k (t ∷ ts) = let r = first_statement s k ts in cond (same (key s t) k) (some t) r
+first_statement s k [] = None
+first_statement s k (t ∷ ts) = let r = first_statement s k ts in cond (same (key s t) k) (Some t) r
 
 -- What a statement says.
 abbrev pub entry_of : List ℕ → Statement → Entry

@@ -1,6 +1,5 @@
 -- What the functions that look for a repeated key say to each other.
-use Rattle.std.specs.Prelude.{◌≡◌, Bool, true, false, not, List, [], ◌∷◌, ◌++◌, map, ℕ, ltb}
-use Rattle.std.proofs.Math.Option.{Option, none, some}
+use Rattle.std.specs.Prelude.{◌≡◌, Bool, true, false, not, List, [], ◌∷◌, ◌++◌, map, ℕ, ltb, Option, None, Some}
 use Rattle.scan.specs.Chain.{Chain}
 use Rattle.header.specs.Entry.{key}
 use Rattle.header.specs.Grammar.{StatementFrom}
@@ -14,8 +13,8 @@ StatementsTo s from ts to = Chain (StatementFrom s) (λ end. end ≡ to) from ts
 
 -- Whether a statement was found that starts before an offset.
 abbrev pub starts_before : ℕ → Option Statement → Bool
-starts_before to none = false
-starts_before to (some t) = ltb t.first to
+starts_before to None = false
+starts_before to (Some t) = ltb t.first to
 
 -- The key k of the statement at `to` was looked for among those of the statements from `from` up to it, with a table l that
 -- contains these, and inserted into the table, which is l' now: r says whether it is one of them.

@@ -1,159 +1,75 @@
 // The frame of a header: its start pattern, the end of its body, its end pattern.
 ghost use Rattle.std.specs.Prelude.{◌≡◌, ◌<◌, length};
-ghost use Rattle.scan.specs.Outcome.{failed, error_at};
-ghost use Rattle.scan.specs.Search.{first_from};
-ghost use Rattle.header.specs.Answers.{framed_outcome};
-ghost use Rattle.text.specs.Text.{every};
-ghost use Rattle.header.specs.Frame.{opening_at, closing_at, ends_body, stays_in_body, frame_at, header_at};
+ghost use Rattle.header.specs.Frame.{opening_at, closing_at, ends_body, frame_at, header_at};
 
-use super::{Framed, HEADER_LIMIT, Header};
-use scan::{Error, Found};
+use super::search::find_by_blocks;
+use super::{HEADER_LIMIT, Header, error_at};
+use scan::{Error, byte_at};
 
 // Where the `{` of a start pattern at `start` is.
-fn opening_at(s: &[u8], start: usize) -> Found
+#[tactic(auto, unfolding(crate::specs::Frame::opening_at))]
+fn opening_at(s: &[u8], start: usize) -> Option<usize>
     requires { start < length s.now }
     ensures { result ≡ opening_at s.now start }
 {
-    let a = scan::byte_at(s, start);
-    if a == b'{' {
-        return Found::At(start);
+    match byte_at(s, start) {
+        b'{' => Some(start),
+        b'\n' if byte_at(s, start + 1) == b'{' => Some(start + 1),
+        b'\r' if byte_at(s, start + 1) == b'\n' && byte_at(s, start + 2) == b'{' => Some(start + 2),
+        _ => None,
     }
-    let second = start + 1;
-    if a == b'\n' {
-        if scan::byte_at(s, second) == b'{' {
-            return Found::At(second);
-        }
-        return Found::Nothing;
-    }
-    let third = start + 2;
-    if a == b'\r' {
-        if scan::byte_at(s, second) == b'\n' {
-            if scan::byte_at(s, third) == b'{' {
-                return Found::At(third);
-            }
-        }
-    }
-    Found::Nothing
 }
 
 // Where the end pattern ends whose `}` is at `right`.
-fn closing_at(s: &[u8], right: usize) -> Found
+#[tactic(auto, unfolding(crate::specs::Frame::closing_at))]
+fn closing_at(s: &[u8], right: usize) -> Option<usize>
     requires { right < length s.now }
     ensures { result ≡ closing_at s.now right }
 {
-    let second = right + 1;
-    let third = right + 2;
-    let a = scan::byte_at(s, second);
-    if a == b'\n' {
-        return Found::At(third);
+    match byte_at(s, right + 1) {
+        b'\n' => Some(right + 2),
+        b'\r' if byte_at(s, right + 2) == b'\n' => Some(right + 3),
+        _ => None,
     }
-    let past = right + 3;
-    if a == b'\r' {
-        if scan::byte_at(s, third) == b'\n' {
-            return Found::At(past);
-        }
-    }
-    Found::Nothing
 }
 
 // Whether a byte can't stand in a body. There is no branch, so that the compiler tests many bytes at once.
+#[tactic(auto, unfolding(crate::specs::Frame::ends_body))]
 fn ends_body(b: u8) -> bool
     ensures { result ≡ ends_body b }
 {
     (b == 0) | ((127 < b) | ((b == b'{') | (b == b'}')))
 }
 
-// Whether each byte may stand in a body. All are looked at, whatever the first are.
-fn is_body(l: &[u8]) -> bool
-    ensures { result ≡ every stays_in_body l.now }
-{
-    let mut r = true;
-    let mut i = 0;
-    while i < l.len() {
-        r = r & !ends_body(l[i]);
-        i += 1;
-    }
-    r
-}
-
-// The first offset from `from` on whose byte can't stand in a body, byte by byte.
-fn find_bytewise(s: &[u8], from: usize) -> Found
-    ensures { result ≡ first_from ends_body s.now from }
-{
-    let mut i = from;
-    while i < s.len() {
-        if ends_body(s[i]) {
-            return Found::At(i);
-        }
-        i += 1;
-    }
-    Found::Nothing
-}
-
-// The same, 64 bytes at a time as long as all of them may stand in a body.
-fn find_body_end(s: &[u8], from: usize) -> Found
-    ensures { result ≡ first_from ends_body s.now from }
-{
-    let mut i = from;
-    while i < s.len() {
-        if s.len() - i < 64 {
-            return find_bytewise(s, i);
-        }
-        let e = i + 64;
-        if !is_body(&s[i..e]) {
-            return find_bytewise(s, i);
-        }
-        i = e;
-    }
-    Found::Nothing
-}
-
-// An answer that no header stands here.
-fn refused(code: u8, position: usize) -> Framed
-    ensures { framed_outcome result ≡ failed (error_at code position) }
-{
-    Framed::Failed(Error {
-        code: code,
-        position: position,
-    })
-}
-
 // The header at `start`, of any length.
-fn frame_at(s: &[u8], start: usize) -> Framed
+#[tactic(auto, unfolding(crate::specs::Frame::frame_at), using(crate::proofs::FrameSteps::opening_near))]
+fn frame_at(s: &[u8], start: usize) -> Result<Header, Error>
     requires { start < length s.now }
-    ensures { framed_outcome result ≡ frame_at s.now start }
+    ensures { result ≡ frame_at s.now start }
 {
-    let Found::At(left) = opening_at(s, start) else {
-        return refused(3, start);
-    };
-    let body = left + 1;
-    let Found::At(right) = find_body_end(s, body) else {
-        return refused(5, start);
-    };
+    let left = opening_at(s, start).ok_or(error_at(3, start))?;
+    let right = find_by_blocks(s, left + 1, ends_body).ok_or(error_at(5, start))?;
     if s[right] != b'}' {
-        return refused(4, right);
+        return Err(error_at(4, right));
     }
-    let Found::At(next) = closing_at(s, right) else {
-        return refused(5, start);
-    };
-    let length = next - start;
-    Framed::At(Header {
-        left: left,
-        right: right,
-        length: length,
+    let next = closing_at(s, right).ok_or(error_at(5, start))?;
+    Ok(Header {
+        left,
+        right,
+        length: next - start,
     })
 }
 
 // The header that starts at `start`. Nothing past the first 65,536 bytes from there is looked at.
-pub fn header_at(s: &[u8], start: usize) -> Framed
-    ensures { framed_outcome result ≡ header_at s.now start }
+#[tactic(auto, using(crate::proofs::FrameSteps::past_the_end, crate::proofs::FrameSteps::whole_rest, crate::proofs::FrameSteps::in_window))]
+pub fn header_at(s: &[u8], start: usize) -> Result<Header, Error>
+    ensures { result ≡ header_at s.now start }
 {
     if s.len() <= start {
-        return refused(3, start);
+        return Err(error_at(3, start));
     }
     if s.len() - start <= HEADER_LIMIT {
         return frame_at(s, start);
     }
-    let end = start + HEADER_LIMIT;
-    frame_at(&s[..end], start)
+    frame_at(&s[..start + HEADER_LIMIT], start)
 }

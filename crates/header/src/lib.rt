@@ -5,7 +5,11 @@ pub mod check;
 pub mod frame;
 pub mod lookup;
 pub mod repeat;
+pub mod search;
 pub mod statements;
+
+ghost use Rattle.std.specs.Prelude.{◌≡◌};
+ghost use Rattle.scan.specs.Outcome.{error_at};
 
 use scan::Error;
 
@@ -29,24 +33,13 @@ pub struct Statement {
     pub end: usize,
 }
 
-// What stands where a statement may start: one, nothing but whitespace, or neither.
+// What stands where a statement may start, where it is neither a statement nor only whitespace.
 #[derive(Clone, Copy)]
-pub enum Next {
-    One(Statement),
-    End,
-    Malformed,
-}
+pub struct Malformed;
 
-// The answer of a search for a header: where it stands, or why none does.
-#[derive(Clone, Copy)]
-pub enum Framed {
-    At(Header),
-    Failed(Error),
-}
-
-// The answer of a check: it passes, or the error.
-#[derive(Clone, Copy)]
-pub enum Checked {
-    Good,
-    Failed(Error),
+// The error with a code and a position.
+pub fn error_at(code: u8, position: usize) -> Error
+    ensures { result ≡ error_at code position }
+{
+    Error { code, position }
 }

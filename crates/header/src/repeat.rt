@@ -6,21 +6,16 @@ ghost use Rattle.header.specs.Lookup.{first_statement};
 ghost use Rattle.header.specs.Repeats.{starts_before, KeyInserted};
 ghost use Rattle.header.specs.Statements.{leading_statements};
 
-use super::lookup::{Sought, find_key};
+use super::lookup::find_key;
 use text::key::fold_byte;
 use text::whitespace::is_whitespace;
 
-fn wide(b: u8) -> u64
-    ensures { result ≡ b }
-{
-    b as u64
-}
-
 // One byte more in a hash.
+#[tactic(auto, unfolding(crate::specs::Hash::mixed))]
 fn mix(h: u64, b: u8) -> u64
     ensures { result ≡ mixed h b }
 {
-    let y = h % 4294967296 * 4294883355 + h / 4294967296 + wide(b);
+    let y = h % 4294967296 * 4294883355 + h / 4294967296 + u64::from(b);
     y ^ (y / 536870912)
 }
 
@@ -29,32 +24,31 @@ fn mix_key_byte(h: u64, b: u8) -> u64
     ensures { result ≡ mixed_key_byte h b }
 {
     if 32 < b {
-        return mix(h, fold_byte(b));
+        mix(h, fold_byte(b))
+    } else if is_whitespace(b) {
+        h
+    } else {
+        mix(h, b)
     }
-    if is_whitespace(b) {
-        return h;
-    }
-    mix(h, b)
 }
 
 // The hash of a key, without whitespace and folded.
 fn hash_key(k: &[u8]) -> u64
     ensures { result ≡ hash_of (key_of k.now) }
 {
-    let mut h: u64 = 1;
-    let mut i = 0;
-    while i < k.len() {
-        h = mix_key_byte(h, k[i]);
-        i += 1;
+    let mut h = 1;
+    for &b in k {
+        h = mix_key_byte(h, b);
     }
     mix(h, 0)
 }
 
 // The slot that a probe for a hash starts at: the low half of the hash, scaled to the number of slots.
+#[tactic(auto, unfolding(crate::specs::Hash::slot_of))]
 fn slot_of(h: u64, slots: u32) -> usize
     ensures { result ≡ slot_of slots h }
 {
-    (h % 4294967296 * (slots as u64) / 4294967296) as usize
+    (h % 4294967296 * u64::from(slots) / 4294967296) as usize
 }
 
 // Inserts the hash `h` into the table, at the first empty slot from `slot` on, if it is not there. False: it was not there.
@@ -65,17 +59,14 @@ fn insert(table: &mut [u64], slot: usize, h: u64) -> bool
     if h == 0 {
         return true;
     }
-    let mut i = slot;
-    while i < table.len() {
-        let v = table[i];
-        if v == 0 {
+    for i in slot..table.len() {
+        if table[i] == 0 {
             table[i] = h;
             return false;
         }
-        if v == h {
+        if table[i] == h {
             return true;
         }
-        i += 1;
     }
     true
 }
@@ -84,10 +75,7 @@ fn insert(table: &mut [u64], slot: usize, h: u64) -> bool
 fn is_earlier(s: &[u8], from: usize, to: usize, k: &[u8]) -> bool
     ensures { result ≡ starts_before to (first_statement s.now (key_of k.now) (leading_statements s.now from)) }
 {
-    match find_key(s, from, k) {
-        Sought::Missing => false,
-        Sought::At(t) => t.first < to,
-    }
+    find_key(s, from, k).is_some_and(|t| t.first < to)
 }
 
 // Whether `k` is a key of the statements from `from` up to `to`, whose hashes the table contains. Now it contains that of `k`.
@@ -95,8 +83,5 @@ pub fn insert_key(s: &[u8], from: usize, to: usize, k: &[u8], table: &mut [u64],
     ensures { KeyInserted s.now from to slots (key_of k.now) table.old table.new result }
 {
     let h = hash_key(k);
-    if insert(table, slot_of(h, slots), h) {
-        return is_earlier(s, from, to, k);
-    }
-    false
+    insert(table, slot_of(h, slots), h) && is_earlier(s, from, to, k)
 }

@@ -1,11 +1,15 @@
 // Statements of a header's body. The slice is the file up to the header's `}`, so that offsets are the file's.
-ghost use Rattle.std.specs.Prelude.{◌≡◌};
-ghost use Rattle.scan.specs.Search.{first_from};
+ghost use Rattle.std.specs.Prelude.{◌≡◌, ◌-◌, ◌≤◌, length};
+ghost use Rattle.std.specs.Iterator.{at_most};
+ghost use Rattle.text.specs.Key.{key_of};
 ghost use Rattle.header.specs.Checks.{separator};
+ghost use Rattle.header.specs.Entry.{key};
 ghost use Rattle.header.specs.Statements.{statement_at};
+ghost use Rattle.header.specs.Walks.{Steps};
 
-use super::{Next, Statement};
-use scan::Found;
+use super::search::find_where;
+use super::{Malformed, Statement};
+use text::whitespace::find_visible;
 
 // Whether a byte is `=` or `;`.
 fn is_separator(b: u8) -> bool
@@ -14,43 +18,63 @@ fn is_separator(b: u8) -> bool
     b == b'=' || b == b';'
 }
 
-// The first offset from `from` on that holds `=` or `;`.
-fn find_separator(s: &[u8], from: usize) -> Found
-    ensures { result ≡ first_from separator s.now from }
-{
-    let mut i = from;
-    while i < s.len() {
-        if is_separator(s[i]) {
-            return Found::At(i);
-        }
-        i += 1;
-    }
-    Found::Nothing
-}
-
-// The statement that starts at `at`. Each byte is looked at once, up to the statement's `;`.
-pub fn statement_at(s: &[u8], at: usize) -> Next
+// The statement that starts at `at`, or none where only whitespace is left. Each byte is looked at once, up to the
+// statement's `;`.
+pub fn statement_at(s: &[u8], at: usize) -> Result<Option<Statement>, Malformed>
     ensures { result ≡ statement_at s.now at }
 {
-    let Found::At(first) = text::whitespace::find_visible(s, at) else {
-        return Next::End;
+    let Some(first) = find_visible(s, at) else {
+        return Ok(None);
     };
-    let Found::At(equals) = find_separator(s, first) else {
-        return Next::Malformed;
-    };
-    if s[equals] != b'=' {
-        return Next::Malformed;
+    let equals = find_where(s, first, is_separator).ok_or(Malformed)?;
+    if s[equals] != b'=' || equals == first {
+        return Err(Malformed);
     }
-    if equals == first {
-        return Next::Malformed;
-    }
-    let value = equals + 1;
-    let Found::At(end) = scan::find(s, b';', value) else {
-        return Next::Malformed;
-    };
-    Next::One(Statement {
+    let end = scan::find(s, b';', equals + 1).ok_or(Malformed)?;
+    Ok(Some(Statement {
         first: at,
-        equals: equals,
-        end: end,
-    })
+        equals,
+        end,
+    }))
+}
+
+// The bytes of a statement's key, as a part of the same slice.
+pub fn key_bytes(s: &[u8], t: Statement) -> &[u8]
+    requires { (t.first ≤ t.equals) × (t.equals ≤ length s.now) }
+    ensures { key_of result.now ≡ key s.now t }
+{
+    &s[t.first..t.equals]
+}
+
+// A walk over the statements from an offset on. What is malformed ends it.
+#[derive(Drop)]
+pub struct Statements<'a> {
+    pub s: &'a [u8],
+    pub at: usize,
+}
+
+impl<'a> Statements<'a> {
+    pub fn new(s: &'a [u8], at: usize) -> Self
+        ensures bytes { result.s.now ≡ s.now }
+        ensures place { result.at ≡ at }
+    {
+        Statements { s, at }
+    }
+}
+
+impl Iterator for Statements<'_> {
+    type Item = Result<Statement, Malformed>;
+
+    ghost next_gives = { λ x r y. Steps x.s.now x.at r y.s.now y.at };
+
+    ghost remaining = { λ x. at_most (length x.s.now - x.at) };
+
+    fn next(&mut self) -> Option<Result<Statement, Malformed>> {
+        let next = statement_at(self.s, self.at).transpose()?;
+        self.at = match next {
+            Ok(t) => t.end + 1,
+            Err(_) => self.s.len(),
+        };
+        Some(next)
+    }
 }

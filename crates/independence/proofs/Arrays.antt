@@ -1,12 +1,11 @@
 -- A block that two files share has the same array: every byte that is delivered, and every pixel. It is stored where the block's data is.
+use Rattle.std.specs.Prelude.{Some, Ok, slice_get}
 use mathlib.Core.Path.{◌≡◌, sym, ap, ◌∙◌}
 use mathlib.Core.List.{List}
-use mathlib.Core.Option.{some}
 use Prim.Native.Nat.{ℕ, ◌+◌}
 use native.Mathlib.Omega.{arith}
-use lib.ListN.{take, drop, get_elem?}
+use lib.ListN.{take, drop}
 use lib.Seq.{drop-drop}
-use Rattle.scan.specs.Outcome.{ok}
 use Rattle.scan.proofs.Cases.{by_test, by_outcome}
 use Rattle.header.proofs.Leading.{part_between}
 use Rattle.blocks.specs.declared.Row.{Row}
@@ -36,15 +35,15 @@ rest_same a b m n s t e =
 
 module _ (n : ℕ) {s t : List ℕ} {k j : ℕ} {row : Row} (b : SharedBlock s t k j row (moved_row n row)) where
   -- The view has the block's row.
-  view_row : (v : View) → view_of s k ≡ ok v → v.row ≡ row
+  view_row : (v : View) → view_of s k ≡ Ok v → v.row ≡ row
   view_row v e =
       let x = view_seen s k v e in
-      let o : ok x.rows ≡ ok b.rows = sym x.opens ∙ opened_complete s b.file.partition in
+      let o : Ok x.rows ≡ Ok b.rows = sym x.opens ∙ opened_complete s b.file.partition in
       let p : x.rows ≡ b.rows = cc in
-      let q : some v.row ≡ some row = sym x.at ∙ ap (λ (l : List Row). get_elem? l k) p ∙ b.at in
+      let q : Some v.row ≡ Some row = sym x.at ∙ ap (λ (l : List Row). slice_get l k) p ∙ b.at in
       cc
 
-  data_shared : (v : View) → view_of s k ≡ ok v → data_of t (moved_view n v) ≡ data_of s v
+  data_shared : (v : View) → view_of s k ≡ Ok v → data_of t (moved_view n v) ≡ data_of s v
   data_shared v e = rw (view_row v e) (sym (rest_same row.start (n + row.start) row.header row.size s t b.bytes))
 
   pub array_shared : array_of t j ≡ array_of s k

@@ -1,15 +1,15 @@
 -- The conditions of the laws can be met, and each is needed: where one is dropped, two small files refute the law. Proved by computing.
+use Rattle.std.specs.Prelude.{None, Some, Ok, slice_get}
+use Rattle.scan.specs.Outcome.{Outcome, refused}
 use mathlib.Core.Path.{◌≡◌, refl, sym, ap, ◌∙◌}
 use mathlib.Core.List.Memᴰ
 use mathlib.Core.List.{List, [], ◌∷◌, ◌++◌, map}
-use mathlib.Core.Option.{none, some}
 use Prim.Native.Nat.{ℕ, ◌+◌, ◌≤◌}
 use native.Mathlib.Omega.{arith}
 use lib.IntN.{pos}
-use lib.ListN.{length, drop, get_elem?}
+use lib.ListN.{length, drop}
 use lib.Seq.{drop-append_seam}
 use Rattle.scan.specs.Byte.{ascii, same}
-use Rattle.scan.specs.Outcome.{Outcome, ok, refused}
 use Rattle.scan.specs.Search.{first_with, first_from}
 use Rattle.scan.proofs.Cases.{ok-failed}
 use Rattle.scan.proofs.Chains.{chain_end, chain_length}
@@ -71,20 +71,20 @@ named_row = record { start = 5; header = 21; size = 0; kind = 1; sequence = pos 
 
 record Facts : Type 0 where
   -- Two such files have the same rows, and the data block has the same bytes,
-  opens : opened (file_with 49) ≡ ok rows
-  other_opens : opened (file_with 50) ≡ ok rows
+  opens : opened (file_with 49) ≡ Ok rows
+  other_opens : opened (file_with 50) ≡ Ok rows
   bytes : block_bytes (file_with 49) block ≡ block_bytes (file_with 50) block
   -- but not the same values: A is a keyword of the general header.
-  value : value_found (file_with 49) 1 (ascii "A") ≡ ok (49 ∷ [])
-  other_value : value_found (file_with 50) 1 (ascii "A") ≡ ok (50 ∷ [])
+  value : value_found (file_with 49) 1 (ascii "A") ≡ Ok (49 ∷ [])
+  other_value : value_found (file_with 50) 1 (ascii "A") ≡ Ok (50 ∷ [])
   -- Concatenated they are refused: the third header starts with EDF_DataFormatVersion, not with EDF_DataBlockID.
   joined : opened (file_with 49 ++ file_with 50) ≡ refused 9 102
   small : length (file_with 49) ≡ 102
   other_small : length (file_with 50) ≡ 102
-  blank_opens : opened blank ≡ ok (blank_row ∷ [])
+  blank_opens : opened blank ≡ Ok (blank_row ∷ [])
   blank_small : length blank ≡ 5
   -- Alone it is a first header of kind 2, with a malformed identity.
-  named_opens : opened (blank ++ named) ≡ ok (blank_row ∷ named_row ∷ [])
+  named_opens : opened (blank ++ named) ≡ Ok (blank_row ∷ named_row ∷ [])
   named_small : length (blank ++ named) ≡ 26
   named_alone : opened (block_bytes (blank ++ named) named_row) ≡ refused 9 0
 
@@ -134,10 +134,10 @@ some_joinable = record {
 
 -- A block of two files, without "the same general header or none in either".
 pub general-header-needed :
-    ((s t : List ℕ) (us vs : List Row) (k j : ℕ) (row : Row) → AcceptedFile s us → AcceptedFile t vs → get_elem? us k ≡ some row
-    → get_elem? vs j ≡ some row → block_bytes s row ≡ block_bytes t row → (name : List ℕ) → value_found t j name ≡ value_found s k name) → ⊥
+    ((s t : List ℕ) (us vs : List Row) (k j : ℕ) (row : Row) → AcceptedFile s us → AcceptedFile t vs → slice_get us k ≡ Some row
+    → slice_get vs j ≡ Some row → block_bytes s row ≡ block_bytes t row → (name : List ℕ) → value_found t j name ≡ value_found s k name) → ⊥
 general-header-needed law =
-    let e : ◌≡◌ {A = Outcome (List ℕ)} (ok (50 ∷ [])) (ok (49 ∷ [])) =
+    let e : ◌≡◌ {A = Outcome (List ℕ)} (Ok (50 ∷ [])) (Ok (49 ∷ [])) =
     sym facts.other_value
     ∙ law (file_with 49) (file_with 50) rows rows 1 1 block accepted other_accepted refl refl facts.bytes (ascii "A") ∙ facts.value in
     let z : ◌≡◌ {A = ℕ} 50 49 = cc in
@@ -172,13 +172,13 @@ starts_moved s t {us} {vs} j c = go vs j.second.partition.not_empty same
     go : (xs : List Row) → 1 ≤ length xs → map (moved_row (length s)) xs ≡ xs → ⊥
     go [] l e = omega arith
     go (x ∷ xs) l e =
-        let z : some (moved_row (length s) x) ≡ some x = ap (λ (l : List Row). get_elem? l 0) e in
+        let z : Some (moved_row (length s) x) ≡ Some x = ap (λ (l : List Row). slice_get l 0) e in
         let y : moved_row (length s) x ≡ x = cc in
         omega (arith, ap (λ (r : Row). r.start) y, long, p.not_empty)
 
 -- Not every block of a file without a general header is a file of its own.
 pub alone-needed :
-    ((s : List ℕ) (us : List Row) (k : ℕ) (row : Row) → AcceptedFile s us → general_header s us ≡ none → get_elem? us k ≡ some row
+    ((s : List ℕ) (us : List Row) (k : ℕ) (row : Row) → AcceptedFile s us → general_header s us ≡ None → slice_get us k ≡ Some row
     → AloneBlock s k row) → ⊥
 alone-needed law =
     let s = blank ++ named in

@@ -12,7 +12,6 @@ use Rattle.keyword.specs.Shared.{SharedBlock}
 use Rattle.keyword.proofs.Shared.{moved_view, view_moved}
 use Rattle.keyword.proofs.SharedValues.{value_moved, origin_moved, value_shared}
 use Rattle.origins.specs.Fields.{by_name}
-use Rattle.origins.specs.Origins.{origins_from}
 use Rattle.description.specs.Describe.{described, description_in, description_of}
 use Rattle.quantities.specs.Real.{real_in}
 use Rattle.quantities.proofs.ReadLaws.{real_by}
@@ -21,7 +20,7 @@ use Rattle.quantities.proofs.ReadLaws.{real_by}
 pub description_moved : (n : ℕ) (v : View) → description_in (moved_view n v) ≡ description_in v
 unfolding description_in
 description_moved n v = λ i. require (eqb v.row.kind 1) 16 0
-    >> described (λ name. value_moved n v name i) (origins_from (by_name (λ name. origin_moved n v name i))) v.row.size
+    >> described (λ name. value_moved n v name i) (by_name (λ name. origin_moved n v name i)) v.row.size
 
 module _ (n : ℕ) {s t : List ℕ} {k j : ℕ} {row : Row} (b : SharedBlock s t k j row (moved_row n row)) where
   pub description_shared : description_of t j ≡ description_of s k

@@ -1,10 +1,10 @@
 -- Blocks that two files share: those of two concatenated files, and a block that is a file of its own.
+use Rattle.std.specs.Prelude.{None, Some, slice_get}
 use mathlib.Core.Path.{◌≡◌, refl, sym, ap, ◌∙◌}
 use mathlib.Core.List.{List, [], ◌∷◌, ◌++◌, map}
-use mathlib.Core.Option.{none, some}
 use Prim.Native.Nat.{ℕ, ◌+◌, ◌≤◌}
 use native.Mathlib.Omega.{arith}
-use lib.ListN.{length, take, drop, get_elem?, length-take, length-drop}
+use lib.ListN.{length, take, drop, length-take, length-drop}
 use lib.Seq.{take-take, take-append-le, drop-append-le}
 use Rattle.blocks.specs.declared.Row.{Row}
 use Rattle.blocks.proofs.Unambiguous.{row_inside}
@@ -19,11 +19,11 @@ use Rattle.keyword.specs.Shared.{SameBlock, MovedPlainBlock}
 -- ---- Two concatenated files
 
 module _ (s t : List ℕ) {rows others : List Row} (j : Joinable s t rows others) where
-  no_general : general_header (s ++ t) (joined_rows (length s) rows others) ≡ none
+  no_general : general_header (s ++ t) (joined_rows (length s) rows others) ≡ None
   no_general = joined_general s t j.first_kind j.second_kind j.first.partition j.second.partition j.few
 
   -- A block of the first,
-  pub first_shared : (k : ℕ) {row : Row} → get_elem? rows k ≡ some row → SameBlock s (s ++ t) k k
+  pub first_shared : (k : ℕ) {row : Row} → slice_get rows k ≡ Some row → SameBlock s (s ++ t) k k
   first_shared k {row} e =
       let n = row.header + row.size in
       let inside : row.start + row.header + row.size ≤ length s = row_inside j.first.partition (member_at rows k e) in (
@@ -43,7 +43,7 @@ module _ (s t : List ℕ) {rows others : List Row} (j : Joinable s t rows others
       )
 
   -- and one of the second.
-  pub second_shared : (k : ℕ) {row : Row} → get_elem? others k ≡ some row → MovedPlainBlock (length s) t (s ++ t) k (length rows + k)
+  pub second_shared : (k : ℕ) {row : Row} → slice_get others k ≡ Some row → MovedPlainBlock (length s) t (s ++ t) k (length rows + k)
   second_shared k {row} e = (
     row,
     record {
@@ -59,7 +59,7 @@ module _ (s t : List ℕ) {rows others : List Row} (j : Joinable s t rows others
     second-general,
   )
     where
-      second-general : general_header t others ≡ none
+      second-general : general_header t others ≡ None
       second-general = plain_general j.second_kind j.second.partition
 
 -- ---- A block as a file of its own
@@ -84,12 +84,12 @@ module _ {s : List ℕ} {k : ℕ} {row : Row} (a : AloneBlock s k row) where
           file = record { small = omega (arith, bytes_small s row, a.file.small); partition = a.alone };
           other_file = a.file;
           at = refl;
-          other_at = a.at ∙ ap some (sym alone_row);
+          other_at = a.at ∙ ap Some (sym alone_row);
           bytes = take-take n n (drop row.start s) (omega arith) ∙ ap (block_bytes s) (sym alone_row);
           general = alone-general ∙ sym a.no_general;
         },
         alone-general,
       )
     where
-      alone-general : general_header (block_bytes s row) (starting_at 0 row ∷ []) ≡ none
+      alone-general : general_header (block_bytes s row) (starting_at 0 row ∷ []) ≡ None
       alone-general = rw alone_kind

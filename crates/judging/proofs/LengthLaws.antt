@@ -1,9 +1,8 @@
 -- The length of a header, by the boundary and by what EDF_HeaderSize says.
-use mathlib.Core.Path.{◌≡◌, ap, ◌∙◌}
+use mathlib.Core.Path.{◌≡◌}
 use mathlib.Core.Bool.{true, false}
 use mathlib.Core.List.{List}
 use Prim.Native.Nat.{ℕ, ◌%◌}
-use native.Mathlib.Nat.{mod-zero}
 use lib.Dec.{eqb}
 use Rattle.scan.proofs.Cases.{by_test}
 use Rattle.header.specs.Entries.{value_in}
@@ -12,13 +11,6 @@ use Rattle.blocks.specs.Judging.{is_length_or_absent, length_allowed}
 use Rattle.blocks.specs.Counting.{counting_in}
 use Rattle.blocks.specs.Keys.{HeaderSizeKey}
 use Rattle.blocks.specs.declared.FileRules.{FileRules}
-
--- ---- The boundary
-
-pub mod_of_zero : (n b : ℕ) → b ≡ 0 → n % b ≡ n
-mod_of_zero n b e = ap (λ (k : ℕ). n % k) e ∙ mod-zero n
-
--- ---- Both together
 
 module _ (r : FileRules) (es : List Entry) (header : ℕ) where
   pub length_other : is_length_or_absent header (value_in HeaderSizeKey (counting_in r.kind es)) ≡ false → length_allowed r es header ≡ false

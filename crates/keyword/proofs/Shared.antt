@@ -1,16 +1,16 @@
 -- The view of a block that two files share depends on its row, on its bytes and on those of the general header alone.
+use Rattle.std.specs.Prelude.{Option, None, Some, Ok, slice_get}
+use Rattle.scan.specs.Outcome.{Outcome, ◌>>=◌}
 use mathlib.Core.Path.{◌≡◌, refl, sym, ap, subst, ◌∙◌}
 use mathlib.Core.Bool.{cond}
 use mathlib.Core.List.{List, [], ◌∷◌, map}
-use mathlib.Core.Option.{Option, none, some}
 use Prim.Native.Nat.{ℕ, ◌+◌, ◌≤◌}
 use native.Mathlib.Omega.{arith}
 use borrow.Author.Tests.{eqb-true}
 use lib.Dec.{eqb}
-use lib.ListN.{length, take, get_elem?}
+use lib.ListN.{length, take}
 use lib.Seq.{take-take}
 use Rattle.scan.specs.Chain.{Chain}
-use Rattle.scan.specs.Outcome.{Outcome, ok, ◌>>=◌}
 use Rattle.scan.proofs.Cases.{by_test, by_outcome}
 use Rattle.header.specs.Entry.{Entry}
 use Rattle.blocks.specs.Grammar.{Rules, HasHeader, Gap, IsBlock, SpacedBlock, Partition}
@@ -32,16 +32,16 @@ use Rattle.keyword.proofs.Headers.{entries_read}
 -- It says what it says in the block's bytes alone, with the spans moved by the block's start.
 pub record OwnHeader (s : List ℕ) (row : Row) : Type 0 where
   pub entries : List Entry
-  pub alone : entries_at (block_bytes s row) 0 ≡ ok entries
-  pub here : entries_at s row.start ≡ ok (map (moved_entry row.start) entries)
+  pub alone : entries_at (block_bytes s row) 0 ≡ Ok entries
+  pub here : entries_at s row.start ≡ Ok (map (moved_entry row.start) entries)
 
-own_header : {s : List ℕ} {rows : List Row} → Partition s rows → (k : ℕ) {row : Row} → get_elem? rows k ≡ some row → OwnHeader s row
+own_header : {s : List ℕ} {rows : List Row} → Partition s rows → (k : ℕ) {row : Row} → slice_get rows k ≡ Some row → OwnHeader s row
 own_header {s} {rows} c k {row} e =
     let b = (block_of_lem c (member_at rows k e)).2 in
     record {
       entries = (front b).entries;
       alone = entries_read (front b).stands;
-      here = ap (entries_at s) b.starts ∙ entries_read b.stands ∙ ap ok (front b).entries_are;
+      here = ap (entries_at s) b.starts ∙ entries_read b.stands ∙ ap Ok (front b).entries_are;
     }
 
 moved_twice : (n a : ℕ) (es : List Entry) → map (moved_entry (n + a)) es ≡ map (moved_entry n) (map (moved_entry a) es)
@@ -54,8 +54,8 @@ moved_twice n a (e ∷ es) =
 
 -- By the bytes of the general header, if there is one.
 abbrev pub general_by : ℕ → Option (List ℕ) → Outcome (List Entry)
-general_by kind none = ok []
-general_by kind (some bytes) = cond (eqb kind 1) (entries_at bytes 0) (ok [])
+general_by kind None = Ok []
+general_by kind (Some bytes) = cond (eqb kind 1) (entries_at bytes 0) (Ok [])
 
 first_said : {s : List ℕ} {r : Rules} {at next : ℕ} {row : Row} → IsBlock s r at row next → row.kind ≡ 0
     → entries_at s 0 ≡ entries_at (take row.header s) 0
@@ -84,14 +84,14 @@ abbrev pub moved_view : ℕ → View → View
 moved_view n v = record { row = moved_row n v.row; own = map (moved_entry n) v.own; general = v.general }
 
 -- A block of an accepted file, by what its own header says alone.
-module _ {s : List ℕ} {rows : List Row} (f : AcceptedFile s rows) (k : ℕ) {row : Row} (at : get_elem? rows k ≡ some row) where
+module _ {s : List ℕ} {rows : List Row} (f : AcceptedFile s rows) (k : ℕ) {row : Row} (at : slice_get rows k ≡ Some row) where
   pub own : OwnHeader s row
   own = own_header f.partition k at
 
   abbrev pub view_with : List Entry → View
   view_with general = record { row = row; own = map (moved_entry row.start) own.entries; general = general }
 
-  pub view_is : view_of s k ≡ (general_entries s rows row >>= λ g. ok (view_with g))
+  pub view_is : view_of s k ≡ (general_entries s rows row >>= λ g. Ok (view_with g))
   unfolding view_of
   view_is = rw ((file_accepted s f.small).1 f.partition, at, own.here)
 
@@ -104,7 +104,7 @@ module _ (n : ℕ) {s t : List ℕ} {k j : ℕ} {row : Row} (b : SharedBlock s t
 
   own_same : there.entries ≡ here.entries
   own_same =
-      let e : ok there.entries ≡ ok here.entries = sym there.alone ∙ ap (λ (l : List ℕ). entries_at l 0) (sym b.bytes) ∙ here.alone in
+      let e : Ok there.entries ≡ Ok here.entries = sym there.alone ∙ ap (λ (l : List ℕ). entries_at l 0) (sym b.bytes) ∙ here.alone in
       cc
 
   general_same : general_entries t b.others (moved_row n row) ≡ general_entries s b.rows row

@@ -1,12 +1,11 @@
 -- The keywords of a block that two files share: the same values and origins, and the same spans but for the block's start.
+use Rattle.std.specs.Prelude.{Option, None, Some, Ok, option_map}
+use Rattle.scan.specs.Outcome.{Outcome, present, ◌>>=◌}
 use mathlib.Core.Path.{◌≡◌, refl, sym, ap, ◌∙◌}
 use mathlib.Core.List.{List, [], map}
-use mathlib.Core.Option
-use mathlib.Core.Option.{Option, none, some}
 use Prim.Native.Nat.{ℕ, ◌+◌}
 use native.Mathlib.Omega.{arith}
 use borrow.Author.Tests.{le-leb, lt-leb}
-use Rattle.scan.specs.Outcome.{Outcome, ok, present, ◌>>=◌}
 use Rattle.scan.specs.declared.Span.{Span}
 use Rattle.scan.proofs.Cases.{by_test, by_option, by_outcome, none_some}
 use Rattle.text.specs.Key.{key_of}
@@ -70,13 +69,13 @@ module _ (n : ℕ) {s t : List ℕ} {k j : ℕ} {row : Row} (b : SharedBlock s t
 
   -- By what becomes of a span of the own header, and of one of the general header.
   module _ (move : Span → Span) (own-moves : (p : Span) → move (moved_span row.start p) ≡ moved_span n (moved_span row.start p))
-      (general-stays : (g : List Entry) → general_entries s b.rows row ≡ ok g → (key : List ℕ) (e : Entry) → lookup key g ≡ some e
+      (general-stays : (g : List Entry) → general_entries s b.rows row ≡ Ok g → (key : List ℕ) (e : Entry) → lookup key g ≡ Some e
       → move e.span ≡ e.span) where
     own_entries : List Entry
     own_entries = (own b.file k b.at).entries
 
-    span_shared : (g : List Entry) → general_entries s b.rows row ≡ ok g
-        → span_in (moved_view n (view_with b.file k b.at g)) name ≡ Option.map move (span_in (view_with b.file k b.at g) name)
+    span_shared : (g : List Entry) → general_entries s b.rows row ≡ Ok g
+        → span_in (moved_view n (view_with b.file k b.at g)) name ≡ option_map move (span_in (view_with b.file k b.at g) name)
     unfolding lookup_in own_entries
     span_shared g q =
         let key = key_of name in
@@ -85,8 +84,8 @@ module _ (n : ℕ) {s t : List ℕ} {k j : ℕ} {row : Row} (b : SharedBlock s t
         (by_option (lookup key own_entries)
         (λ e. by_test (is_edf_key key)
         (λ u. rw (e, u))
-        (λ u. by_option (lookup key g) (λ f. rw (e, u, f)) (λ x f. rw (e, u, f) (ap some (sym (general-stays g q key x f))))))
-        (λ d e. rw e (ap some (sym (own-moves d.span)))))
+        (λ u. by_option (lookup key g) (λ f. rw (e, u, f)) (λ x f. rw (e, u, f) (ap Some (sym (general-stays g q key x f))))))
+        (λ d e. rw e (ap Some (sym (own-moves d.span)))))
 
     pub found_shared : found t j name ≡ map_outcome move (found s k name)
     found_shared =
@@ -103,12 +102,12 @@ module _ (n : ℕ) {s t : List ℕ} {k j : ℕ} {row : Row} (b : SharedBlock s t
       (λ g q key e l. rw (lt-leb row.start e.span.offset (general_before b.file.partition k b.at q key l)))
 
   -- Without a general header all is.
-  pub found_moved : general_header s b.rows ≡ none → found t j name ≡ map_outcome (moved_span n) (found s k name)
+  pub found_moved : general_header s b.rows ≡ None → found t j name ≡ map_outcome (moved_span n) (found s k name)
   unfolding lookup
   found_moved none-there =
       found_shared (moved_span n) (λ p. refl)
       (λ g q key e l.
-      let p : ok [] ≡ ok g = sym (ap (general_by row.kind) none-there) ∙ sym (general_by_lem b.file.partition row) ∙ q in
+      let p : Ok [] ≡ Ok g = sym (ap (general_by row.kind) none-there) ∙ sym (general_by_lem b.file.partition row) ∙ q in
       let z : [] ≡ g = cc in
       absurd (none_some (rw (sym z) at l)))
 

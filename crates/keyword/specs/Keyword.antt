@@ -1,9 +1,7 @@
 -- Keywords of a block: "Calls about a block take the file and a block number (from 0) and answer as if they opened the file
 -- anew." Their errors: opening's, then 16, then their own.
-use Rattle.std.specs.Prelude.{Bool, false, cond, ◌&&◌, List, [], ℕ, eqb, ℤ}
-use Rattle.std.proofs.Math.Option.{Option, none, some}
-use Rattle.std.proofs.Math.ListN.{get_elem?}
-use Rattle.scan.specs.Outcome.{Outcome, ok, present, ◌>>=◌}
+use Rattle.std.specs.Prelude.{Bool, false, cond, ◌&&◌, List, [], ℕ, eqb, ℤ, Option, None, Some, Ok, slice_get}
+use Rattle.scan.specs.Outcome.{Outcome, present, ◌>>=◌}
 use Rattle.scan.specs.declared.Span.{Span}
 use Rattle.text.specs.Key.{key_of}
 use Rattle.text.specs.Number.{whole_number}
@@ -21,7 +19,7 @@ unfoldable pub entries_at : List ℕ → ℕ → Outcome (List Entry)
 entries_at s start = do
   h ← header_at s start
   ts ← statements_of s start h
-  ok (entries (body_of s h) ts)
+  Ok (entries (body_of s h) ts)
 
 -- A block as its keywords are looked up: its row, its own header's entries, and those of the general header for a data
 -- block of a file that has one.
@@ -32,32 +30,32 @@ pub record View : Type 0 where
 
 -- Whether a first row is that of a general block.
 abbrev pub is_general : Option Row → Bool
-is_general none = false
-is_general (some row) = eqb row.kind 0
+is_general None = false
+is_general (Some row) = eqb row.kind 0
 
 -- The entries that a block shares with the file's other data blocks.
 unfoldable pub general_entries : List ℕ → List Row → Row → Outcome (List Entry)
 general_entries s rows row =
-    cond (eqb row.kind 1 && is_general (get_elem? rows 0)) (entries_at s 0) (ok [])
+    cond (eqb row.kind 1 && is_general (slice_get rows 0)) (entries_at s 0) (Ok [])
 
 -- 16: "no such block".
 unfoldable pub view_of : List ℕ → ℕ → Outcome View
 view_of s block = do
   rows ← opened_file s
-  row ← present (get_elem? rows block) 16 0
+  row ← present (slice_get rows block) 16 0
   own ← entries_at s row.start
   general ← general_entries s rows row
-  ok (record { row = row; own = own; general = general })
+  Ok (record { row = row; own = own; general = general })
 
 abbrev pub first_of : Option Entry → Option Entry → Option Entry
-first_of (some e) other = some e
-first_of none other = other
+first_of (Some e) other = Some e
+first_of None other = other
 
 -- "A keyword is looked up in the block's own header, any position, then, for a data block and keys not starting `edf_`, in
 -- the general header. The sought key is stripped and folded too."
 unfoldable pub lookup_in : View → List ℕ → Option Entry
 lookup_in b sought =
-    let k = key_of sought in first_of (lookup k b.own) (cond (is_edf_key k) none (lookup k b.general))
+    let k = key_of sought in first_of (lookup k b.own) (cond (is_edf_key k) None (lookup k b.general))
 
 -- 16: "no such .. keyword".
 unfoldable pub entry_of : List ℕ → ℕ → List ℕ → Outcome Entry
@@ -69,13 +67,13 @@ entry_of s block sought = do
 unfoldable pub found : List ℕ → ℕ → List ℕ → Outcome Span
 found s block sought = do
   e ← entry_of s block sought
-  ok e.span
+  Ok e.span
 
 -- The value that stands there.
 unfoldable pub value_found : List ℕ → ℕ → List ℕ → Outcome (List ℕ)
 value_found s block sought = do
   e ← entry_of s block sought
-  ok e.value
+  Ok e.value
 
 -- 18: "bad number"; "Place .. 0 for a keyword read as a whole number".
 unfoldable pub whole_number_of : List ℕ → ℕ → List ℕ → Outcome ℤ

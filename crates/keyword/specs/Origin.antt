@@ -1,6 +1,5 @@
 -- Where the value of a keyword came from: "own header, general header, or default" (02, No. 1).
-use Rattle.std.specs.Prelude.{cond, List, ℕ}
-use Rattle.std.proofs.Math.Option.{Option, none, some}
+use Rattle.std.specs.Prelude.{cond, List, ℕ, Option, None, Some}
 use Rattle.text.specs.Key.{key_of}
 use Rattle.header.specs.Entries.{lookup}
 use Rattle.header.specs.Entry.{Entry}
@@ -11,11 +10,11 @@ use Rattle.keyword.specs.declared.Origin.TheVariants as origin
 
 -- By what the own header has, and what the general one has.
 abbrev pub origin_by : Option Entry → Option Entry → Origin
-origin_by (some e) other = origin.Own
-origin_by none (some e) = origin.General
-origin_by none none = origin.Default
+origin_by (Some e) other = origin.Own
+origin_by None (Some e) = origin.General
+origin_by None None = origin.Default
 
 -- Of a keyword in a block: the header in which `lookup_in` finds it.
 unfoldable pub origin_in : View → List ℕ → Origin
 origin_in b sought =
-    let k = key_of sought in origin_by (lookup k b.own) (cond (is_edf_key k) none (lookup k b.general))
+    let k = key_of sought in origin_by (lookup k b.own) (cond (is_edf_key k) None (lookup k b.general))

@@ -1,7 +1,5 @@
 -- A block that two files share: "The general law of keeping blocks apart" (02, No. 3) is about such blocks.
-use Rattle.std.specs.Prelude.{◌≡◌, List, ℕ}
-use Rattle.std.proofs.Math.Option.{none, some}
-use Rattle.std.proofs.Math.ListN.{get_elem?}
+use Rattle.std.specs.Prelude.{◌≡◌, List, ℕ, None, Some, slice_get}
 use Rattle.blocks.specs.declared.Row.{Row}
 use Rattle.locality.specs.Blocks.{AcceptedFile, block_bytes, general_header}
 use Rattle.locality.specs.Moved.{moved_row}
@@ -13,8 +11,8 @@ pub record SharedBlock (s t : List ℕ) (k j : ℕ) (row other : Row) : Type 0 w
   pub others : List Row
   pub file : AcceptedFile s rows
   pub other_file : AcceptedFile t others
-  pub at : get_elem? rows k ≡ some row
-  pub other_at : get_elem? others j ≡ some other
+  pub at : slice_get rows k ≡ Some row
+  pub other_at : slice_get others j ≡ Some other
   pub bytes : block_bytes s row ≡ block_bytes t other
   pub general : general_header s rows ≡ general_header t others
 
@@ -28,4 +26,4 @@ MovedBlock n s t k j = (row : Row) × SharedBlock s t k j row (moved_row n row)
 
 -- and there is no general header.
 abbrev pub MovedPlainBlock : ℕ → List ℕ → List ℕ → ℕ → ℕ → Type 0
-MovedPlainBlock n s t k j = (row : Row) × (b : SharedBlock s t k j row (moved_row n row)) × (general_header s b.rows ≡ none)
+MovedPlainBlock n s t k j = (row : Row) × (b : SharedBlock s t k j row (moved_row n row)) × (general_header s b.rows ≡ None)

@@ -9,28 +9,12 @@ use blocks::Row;
 use header::Header;
 use scan::{Error, Span};
 
-// A block as its keywords are looked up: its row, its own header, and the file's first header, which is searched too where
-// `inherits` is true.
+// A block as its keywords are looked up: its row, its own header, and the general header where it has that too.
 #[derive(Clone, Copy)]
 pub struct Block {
     pub row: Row,
     pub own: Header,
-    pub inherits: bool,
-    pub general: Header,
-}
-
-// The answer of a search for a block.
-#[derive(Clone, Copy)]
-pub enum Viewed {
-    At(Block),
-    Failed(Error),
-}
-
-// The answer of a search for a key: the span of its value in the file.
-#[derive(Clone, Copy)]
-pub enum Value {
-    At(Span),
-    Missing,
+    pub general: Option<Header>,
 }
 
 // Where the value of a keyword came from: the block's own header, the general header, or, where no header in reach has the keyword, the
@@ -42,23 +26,10 @@ pub enum Origin {
     Default,
 }
 
-// A keyword of a block: its value, and where that came from.
+// A keyword of a block: its value, and where that came from. The origin stands beside the value, not in its `Some`: a keyword
+// that no header has has an origin too, the default.
 #[derive(Clone, Copy)]
 pub struct Traced {
-    pub value: Value,
+    pub value: Option<Span>,
     pub origin: Origin,
-}
-
-// The answer of looking a keyword up: where its value stands in the file.
-#[derive(Clone, Copy)]
-pub enum Located {
-    At(Span),
-    Failed(Error),
-}
-
-// The answer of reading a keyword's value as a whole number.
-#[derive(Clone, Copy)]
-pub enum Number {
-    Value(i64),
-    Failed(Error),
 }

@@ -1,86 +1,71 @@
 // Looking a key up in the headers of a block.
 ghost use Rattle.std.specs.Prelude.{◌≡◌, take};
 ghost use Rattle.text.specs.Key.{key_of};
+ghost use Rattle.header.specs.Entries.{lookup};
 ghost use Rattle.keyword.specs.Trace.{trace_in, trace_of};
-ghost use Rattle.keyword.specs.Viewing.{header_entries, view_at, value_span, value_bytes, entry_span, entry_value, span_in, value_in};
-ghost use Rattle.keyword.specs.declared.Origin.TheVariants as origin;
-ghost use Rattle.keyword.specs.declared.Value.TheVariants as value;
+ghost use Rattle.keyword.specs.Viewing.{header_entries, general_entry, view_at, value_bytes, Tells, span_in, value_in};
 
-use super::{Block, Origin, Traced, Value};
+use super::{Block, Origin, Traced};
 use header::Header;
-use header::lookup::{Sought, find_key, value_of};
+use header::lookup::{find_key, value_of};
 use reading::keys::is_edf_key;
+use scan::Span;
 
 // The bytes up to an offset; all of them where it is past the end.
 fn up_to(s: &[u8], end: usize) -> &[u8]
     ensures { result.now ≡ take end s.now }
 {
-    if s.len() < end {
-        return s;
-    }
-    &s[..end]
+    &s[..end.min(s.len())]
 }
 
 // The value of a key in one header.
-fn value_in(file: &[u8], h: Header, key: &[u8]) -> Value
-    ensures result_value { value_span result ≡ entry_span (key_of key.now) (header_entries file.now h) }
-    ensures result_value_2 { value_bytes file.now result ≡ entry_value (key_of key.now) (header_entries file.now h) }
+fn value_in(file: &[u8], h: Header, key: &[u8]) -> Option<Span>
+    ensures { Tells file.now result (lookup (key_of key.now) (header_entries file.now h)) }
 {
-    let left = h.left;
-    let right = h.right;
-    if file.len() <= left {
-        return Value::Missing;
+    if file.len() <= h.left {
+        return None;
     }
-    let body = up_to(file, right);
-    match find_key(body, left + 1, key) {
-        Sought::Missing => Value::Missing,
-        Sought::At(t) => Value::At(value_of(body, t)),
-    }
+    let body = up_to(file, h.right);
+    let t = find_key(body, h.left + 1, key)?;
+    Some(value_of(body, t))
 }
 
-// A key that no header in reach has.
-fn nowhere() -> Traced
-    ensures { (result.value ≡ value.Missing) × (result.origin ≡ origin.Default) }
+// The value of a key in the general header, which EDF_ keys are not looked up in.
+fn general_value(file: &[u8], b: Block, key: &[u8]) -> Option<Span>
+    ensures { Tells file.now result (general_entry (view_at file.now b) key.now) }
 {
-    Traced {
-        value: Value::Missing,
-        origin: Origin::Default,
+    if is_edf_key(key) {
+        return None;
     }
+    value_in(file, b.general?, key)
 }
 
-// A key in a block: its value in the own header, then, but for EDF_ keys, in the general header; and which of them has it.
+// A key in a block: its value in the own header, then in the general header; and which of them has it.
 pub fn trace(file: &[u8], b: Block, key: &[u8]) -> Traced
     ensures { trace_of file.now result ≡ trace_in (view_at file.now b) key.now }
 {
-    match value_in(file, b.own, key) {
-        Value::At(p) => Traced {
-            value: Value::At(p),
+    if let Some(p) = value_in(file, b.own, key) {
+        return Traced {
+            value: Some(p),
             origin: Origin::Own,
+        };
+    }
+    match general_value(file, b, key) {
+        Some(p) => Traced {
+            value: Some(p),
+            origin: Origin::General,
         },
-        Value::Missing => {
-            if !b.inherits {
-                return nowhere();
-            }
-            if is_edf_key(key) {
-                return nowhere();
-            }
-            match value_in(file, b.general, key) {
-                Value::At(p) => Traced {
-                    value: Value::At(p),
-                    origin: Origin::General,
-                },
-                Value::Missing => nowhere(),
-            }
-        }
+        None => Traced {
+            value: None,
+            origin: Origin::Default,
+        },
     }
 }
 
 // The value of a key in a block.
-pub fn look_up(file: &[u8], b: Block, key: &[u8]) -> Value
-    ensures result_value { value_span result ≡ span_in (view_at file.now b) key.now }
+pub fn look_up(file: &[u8], b: Block, key: &[u8]) -> Option<Span>
+    ensures result_value { result ≡ span_in (view_at file.now b) key.now }
     ensures result_value_2 { value_bytes file.now result ≡ value_in (view_at file.now b) key.now }
 {
-    let f = trace(file, b, key);
-    let value = f.value;
-    value
+    trace(file, b, key).value
 }

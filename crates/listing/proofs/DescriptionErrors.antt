@@ -1,21 +1,20 @@
 -- The errors of a description: their codes, and that their position is the number of a field, or 0.
+use Rattle.std.specs.Prelude.{Option, None, Some}
+use Rattle.scan.specs.Outcome.{Outcome, present}
 use mathlib.Core.Bool.{not}
 use mathlib.Core.List.{List, [], ◌∷◌, ◌++◌}
-use mathlib.Core.Option.{Option, none, some}
 use Prim.Native.Nat.{ℕ, ◌*◌, ◌≤◌}
 use native.Mathlib.Omega.{arith}
 use lib.Dec.{leb, eqb}
 use lib.IntN.{ℤ, pos}
 use lib.ListN.{length}
 use Rattle.scan.specs.Byte.{ascii}
-use Rattle.scan.specs.Outcome.{Outcome, present}
 use Rattle.scan.specs.declared.Error.{Error}
 use Rattle.text.specs.Number.{whole_number}
 use Rattle.keyword.specs.Keyword.{View}
 use Rattle.keyword.specs.Viewing.{value_in}
 use Rattle.origins.specs.Fields.{by_name}
-use Rattle.origins.specs.Origins.{origins_in}
-use Rattle.origins.specs.declared.Origins.{Origins}
+use Rattle.origins.specs.Origins.{FieldOrigins, origins_in}
 use Rattle.raster.specs.Axis.{configurations}
 use Rattle.raster.specs.Position.{product}
 use Rattle.raster.specs.Types.{type_of, type_words, order_words, compression_words, code_of}
@@ -34,18 +33,18 @@ FieldErrors o = Errors FieldError o
 
 word_errors : (field : ℕ) (words : List (List ℕ)) (default : ℕ) (o : Option (List ℕ)) → field ≤ 7 → FieldErrors (word_field field words default o)
 unfolding word_field
-word_errors field words default none h = no_error FieldError default
-word_errors field words default (some v) h = presence FieldError (code_of words v) 17 field (omega arith)
+word_errors field words default None h = no_error FieldError default
+word_errors field words default (Some v) h = presence FieldError (code_of words v) 17 field (omega arith)
 
 range_errors : (field most default : ℕ) (o : Option (List ℕ)) → field ≤ 7 → FieldErrors (range_field field most default o)
 unfolding range_field
-range_errors field most default none h = no_error FieldError default
-range_errors field most default (some v) h = presence FieldError (in_range 1 most (whole_number v)) 18 field (omega arith)
+range_errors field most default None h = no_error FieldError default
+range_errors field most default (Some v) h = presence FieldError (in_range 1 most (whole_number v)) 18 field (omega arith)
 
 whole_errors : (field : ℕ) (default : ℤ) (o : Option (List ℕ)) → field ≤ 7 → FieldErrors (whole_field field default o)
 unfolding whole_field
-whole_errors field default none h = no_error FieldError default
-whole_errors field default (some v) h = presence FieldError (whole_number v) 18 field (omega arith)
+whole_errors field default None h = no_error FieldError default
+whole_errors field default (Some v) h = presence FieldError (whole_number v) 18 field (omega arith)
 
 dims_from_errors : (vs : List (List ℕ)) → FieldErrors (dims_from vs)
 unfolding dims_from
@@ -71,7 +70,7 @@ module _ (look : Values) where
       (λ o. steps FieldError (word_field 3 compression_words 1 (look (ascii "Compression"))) _
       (word_errors 3 compression_words 1 (look (ascii "Compression")) (omega arith)) (λ c. no_error FieldError _)))
 
-  described_errors : (origins : Origins) (size : ℕ) → FieldErrors (described look origins size)
+  described_errors : (origins : FieldOrigins) (size : ℕ) → FieldErrors (described look origins size)
   unfolding described
   described_errors origins size =
       steps FieldError (words_of (by_name look)) _ words_errors

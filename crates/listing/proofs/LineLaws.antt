@@ -1,10 +1,11 @@
 -- Lines, piece by piece.
+use Rattle.std.specs.Prelude.{Err}
+use Rattle.scan.specs.Outcome.{Outcome}
 use mathlib.Core.Path.{◌≡◌, refl, sym}
 use mathlib.Core.List.{List, [], ◌∷◌, ◌++◌, append_assoc, append-nil}
 use Prim.Native.Nat.{ℕ}
 use borrow.Author.Tests.{eq-eqb, ne_eqb}
 use Rattle.scan.specs.Byte.{ascii}
-use Rattle.scan.specs.Outcome.{Outcome, failed}
 use Rattle.scan.specs.declared.Error.{Error}
 use Rattle.blocks.specs.declared.Row.{Row}
 use Rattle.description.specs.Describe.{description_of}
@@ -15,7 +16,7 @@ use Rattle.listing.specs.Listing.{line, description_columns, details, row_column
 
 -- ---- What follows the identity of a block
 
-pub refused_is : (e : Error) → ascii " refused" ++ after 32 (error_columns e) ≡ after 32 (description_columns (failed e))
+pub refused_is : (e : Error) → ascii " refused" ++ after 32 (error_columns e) ≡ after 32 (description_columns (Err e))
 unfolding after description_columns
 refused_is e = refl
 
@@ -52,4 +53,4 @@ refused-line_is e = append_assoc (ascii "refused") (after 32 (error_columns e)) 
 
 pub count_line_is : (n : ℕ) → (ascii "blocks" ++ (32 ∷ number n)) ++ ascii "\n" ≡ count_line n
 unfolding count_line line after
-count_line_is n = simp (append_assoc, append-nil)
+count_line_is n = simp append_assoc

@@ -1,7 +1,7 @@
 -- What the lister prints of a file (01, "The lister"): the text, for every list of bytes.
-use Rattle.std.specs.Prelude.{cond, List, [], ◌∷◌, ◌++◌, ℕ, suc, ◌≤◌, eqb, length}
+use Rattle.std.specs.Prelude.{cond, List, [], ◌∷◌, ◌++◌, ℕ, suc, ◌≤◌, eqb, length, Ok, Err}
+use Rattle.scan.specs.Outcome.{Outcome}
 use Rattle.scan.specs.Byte.{ascii}
-use Rattle.scan.specs.Outcome.{Outcome, ok, failed}
 use Rattle.scan.specs.declared.Error.{Error}
 use Rattle.blocks.specs.Opening.{opened_file}
 use Rattle.blocks.specs.declared.Row.{Row}
@@ -16,8 +16,8 @@ line first rest = first ++ (after 32 rest ++ ascii "\n")
 
 -- "`refused`, number, place if not described"
 unfoldable pub description_columns : Outcome Description → List (List ℕ)
-description_columns (ok d) = array_columns d
-description_columns (failed e) = ascii "refused" ∷ error_columns e
+description_columns (Ok d) = array_columns d
+description_columns (Err e) = ascii "refused" ∷ error_columns e
 
 -- "nothing after `general`"
 unfoldable pub details : Row → Outcome Description → List (List ℕ)
@@ -47,8 +47,8 @@ unfoldable pub count_line : ℕ → List ℕ
 count_line n = line (ascii "blocks") (number n ∷ [])
 
 unfoldable pub listing_of : List ℕ → Outcome (List Row) → List ℕ
-listing_of s (ok rows) = count_line (length rows) ++ block_lines s 0 rows
-listing_of s (failed e) = refused_line e
+listing_of s (Ok rows) = count_line (length rows) ++ block_lines s 0 rows
+listing_of s (Err e) = refused_line e
 
 unfoldable pub listing : List ℕ → List ℕ
 listing s = listing_of s (opened_file s)

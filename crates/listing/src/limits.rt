@@ -1,5 +1,5 @@
 // The lister's limits, and how many bytes the lines of a listing take at most, as `specs/Limits` has them.
-use append::bytes::DECIMAL_MOST;
+use append::appender::DECIMAL_MOST;
 use append::words::{IDENTITY_MOST, ORDER_MOST, TYPE_MOST};
 use blocks::BLOCK_LIMIT;
 

@@ -1,8 +1,8 @@
 -- The rules for a block see the keys and values of its header, and not where these stand: entries that are alike keep the same rules.
+use Rattle.std.specs.Prelude.{None}
 use mathlib.Core.Path.{◌≡◌, refl, sym, subst, ◌∙◌}
 use mathlib.Core.Logic.{◌≢◌, ◌⊎◌}
 use mathlib.Core.List.{List, [], ◌∷◌, map}
-use mathlib.Core.Option.{none}
 use Prim.Native.Nat.{ℕ}
 use native.Mathlib.Omega.{arith}
 use Rattle.scan.proofs.Cases.{none_some}
@@ -94,7 +94,7 @@ module _ {Has Other : List ℕ → Type 0} (to : (v : List ℕ) → Has v → Ot
 
 -- Where it stands matters in a file with a general header alone: there the first block is that one.
 module _ {r : Rules} {start other : ℕ} {es ds : List Entry} {row : Row} (a : Alike es ds) (kind : row.kind ≡ 1)
-    (later : (r.general ≡ none) ⊎ (start ≢ 0) → (r.general ≡ none) ⊎ (other ≢ 0)) (at : ℕ) where
+    (later : (r.general ≡ None) ⊎ (start ≢ 0) → (r.general ≡ None) ⊎ (other ≢ 0)) (at : ℕ) where
   role_alike : HasRole r start es row → HasRole r other ds (starting_at at row)
   role_alike (plain-block k b i) =
       plain-block k b (record { sequence = i.sequence; instance = i.instance; memory = i.memory })
@@ -111,7 +111,7 @@ module _ {r : Rules} {start other : ℕ} {es ds : List Entry} {row : Row} (a : A
   }
 
 -- A first header that says as much gives the file the same rules.
-pub declares_alike : {es ds : List Entry} {r : Rules} → Alike es ds → r.general ≡ none → Declares es r → Declares ds r
+pub declares_alike : {es ds : List Entry} {r : Rules} → Alike es ds → r.general ≡ None → Declares es r → Declares ds r
 declares_alike a g (plain n e) = plain (λ h. n (starts_with (alike_sym a) h)) e
 declares_alike a g (data-first h e) = data-first (has_key a h) e
 declares_alike a g (general-first h) = absurd (none_some (sym g ∙ h.general))

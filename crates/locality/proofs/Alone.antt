@@ -1,11 +1,11 @@
 -- A header and a block, in the bytes of the block alone: the same, with their offsets counted from the block's start.
+use Rattle.std.specs.Prelude.{Ok}
 use mathlib.Core.Path.{◌≡◌, sym, ap, ◌∙◌}
 use mathlib.Core.List.{List, map}
 use Prim.Native.Nat.{ℕ, ◌+◌, ◌≤◌}
 use native.Mathlib.Omega.{arith}
 use lib.ListN.{length, take, drop}
 use lib.Seq.{take-take}
-use Rattle.scan.specs.Outcome.{ok}
 use Rattle.scan.proofs.Cases.{by_outcome, ok-failed}
 use Rattle.header.specs.Entries.{entries}
 use Rattle.header.specs.Entry.{Entry, body_of}
@@ -33,12 +33,12 @@ module _ {s : List ℕ} {a : ℕ} {h : Header} {ts : List Statement} {es : List 
       let headed = sym (header_complete x.header) ∙ header_from s a inside in
       by_outcome (header_at (drop a s) 0)
       (λ g e.
-      let p : ok h ≡ ok (moved_header a g) = headed ∙ ap (moved_outcome a (moved_header a)) e in
+      let p : Ok h ≡ Ok (moved_header a g) = headed ∙ ap (moved_outcome a (moved_header a)) e in
       let q : h ≡ moved_header a g = cc in
       let parsed = sym (statements_complete s a h x.parse) ∙ ap (statements_of s a) q ∙ statements_from_lem s a inside g in
       by_outcome (statements_of (drop a s) 0 g)
       (λ us f.
-      let u : ok ts ≡ ok (map (moved_statement a) us) = parsed ∙ ap (moved_outcome a (map (moved_statement a))) f in
+      let u : Ok ts ≡ Ok (map (moved_statement a) us) = parsed ∙ ap (moved_outcome a (map (moved_statement a))) f in
       let v : ts ≡ map (moved_statement a) us = cc in
       record {
         header = g;

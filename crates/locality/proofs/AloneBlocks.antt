@@ -1,9 +1,8 @@
 -- Which blocks are files of their own.
+use Rattle.std.specs.Prelude.{None, Some, slice_get}
 use mathlib.Core.Path.{◌≡◌, sym}
 use mathlib.Core.List.{List}
-use mathlib.Core.Option.{none, some}
 use Prim.Native.Nat.{ℕ}
-use lib.ListN.{get_elem?}
 use Rattle.header.specs.Entry.{Entry}
 use Rattle.header.specs.declared.Header.{Header}
 use Rattle.header.specs.declared.Statement.{Statement}
@@ -17,8 +16,8 @@ use Rattle.locality.proofs.KindLaws.{kind_2_rules, rules_general, row_kind, decl
 use Rattle.locality.proofs.Rows.{member_at}
 
 -- In a file without a general header,
-module _ {s : List ℕ} {rows : List Row} (file : AcceptedFile s rows) (no_general : general_header s rows ≡ none) (k : ℕ) {row : Row}
-    (at : get_elem? rows k ≡ some row) where
+module _ {s : List ℕ} {rows : List Row} (file : AcceptedFile s rows) (no_general : general_header s rows ≡ None) (k : ℕ) {row : Row}
+    (at : slice_get rows k ≡ Some row) where
   in_file : (start : ℕ) × (next : ℕ) × IsBlock s file.partition.rules start row next
   in_file = block_of_lem file.partition (member_at rows k at)
 

@@ -1,10 +1,10 @@
 -- A data block that stands in a file stands behind another file too, with its start moved; and, in a file without a general header, in its
 -- own bytes alone.
+use Rattle.std.specs.Prelude.{None}
 use mathlib.Core.Path.{◌≡◌, refl, sym, ap, subst, ◌∙◌}
 use mathlib.Core.Logic.{inl, inr, ⊎_elim}
 use mathlib.Core.List.Memᴰ
 use mathlib.Core.List.{List, [], ◌∷◌, ◌++◌, map}
-use mathlib.Core.Option.{none}
 use Prim.Native.Nat.{ℕ, ◌+◌, ◌-◌}
 use native.Mathlib.Omega.{arith}
 use lib.ListN.{length, drop, length-append, length-drop}
@@ -70,7 +70,7 @@ module _ {s : List ℕ} {r : Rules} {at next : ℕ} {row : Row} (x : IsBlock s r
       (alike_sym (moved_alike row.start front.entries))
 
   -- and the whole block, in a file without a general header,
-  module _ (kind : row.kind ≡ 1) (no_general : r.general ≡ none) where
+  module _ (kind : row.kind ≡ 1) (no_general : r.general ≡ None) where
     brace_alone : StartsAtBrace r.kind 0 front.header
     brace_alone q =
         let e : row.start + front.header.left ≡ row.start = sym (ap (λ (h : Header). h.left) front.header_is) ∙ x.brace q ∙ sym x.starts in

@@ -1,4 +1,5 @@
 -- The frame of a header in a file behind another: the same, or the same error, with its offsets moved by the length of the first.
+use Rattle.std.specs.Prelude.{Some, None}
 use mathlib.Core.Path.{◌≡◌, refl, ap}
 use mathlib.Core.Bool.{Bool, true, false, cond}
 use mathlib.Core.List.{List, ◌++◌}
@@ -9,7 +10,6 @@ use lib.ListN.{length, take}
 use lib.Seq.{take-append-add}
 use Rattle.scan.specs.Byte.{byte}
 use Rattle.scan.specs.Search.{first_from}
-use Rattle.scan.specs.declared.Found.TheVariants.{At, Nothing}
 use Rattle.scan.proofs.Cases.{by_test}
 use Rattle.header.specs.Frame.{opening_at, closing_at, ends_body, frame_at, header_at}
 use Rattle.header.specs.Limits.{header_limit}
@@ -19,21 +19,21 @@ use Rattle.locality.proofs.Searches.{moved_found, byte_shift, byte_shift_at, sea
 -- The patterns, by the tests that are made.
 module _ (n at : ℕ) where
   opening_by : (a b c d e f : Bool)
-      → cond a (At (n + at)) (cond b (cond c (At (n + at + 1)) Nothing) (cond d (cond e (cond f (At (n + at + 2)) Nothing) Nothing) Nothing))
-      ≡ moved_found n (cond a (At at) (cond b (cond c (At (at + 1)) Nothing) (cond d (cond e (cond f (At (at + 2)) Nothing) Nothing) Nothing)))
+      → cond a (Some (n + at)) (cond b (cond c (Some (n + at + 1)) None) (cond d (cond e (cond f (Some (n + at + 2)) None) None) None))
+      ≡ moved_found n (cond a (Some at) (cond b (cond c (Some (at + 1)) None) (cond d (cond e (cond f (Some (at + 2)) None) None) None)))
   opening_by true b c d e f = refl
-  opening_by false true true d e f = ap At (omega arith)
+  opening_by false true true d e f = ap Some (omega arith)
   opening_by false true false d e f = refl
-  opening_by false false c true true true = ap At (omega arith)
+  opening_by false false c true true true = ap Some (omega arith)
   opening_by false false c true true false = refl
   opening_by false false c true false f = refl
   opening_by false false c false e f = refl
 
   closing_by : (a b c : Bool)
-      → cond a (At (n + at + 2)) (cond b (cond c (At (n + at + 3)) Nothing) Nothing)
-      ≡ moved_found n (cond a (At (at + 2)) (cond b (cond c (At (at + 3)) Nothing) Nothing))
-  closing_by true b c = ap At (omega arith)
-  closing_by false true true = ap At (omega arith)
+      → cond a (Some (n + at + 2)) (cond b (cond c (Some (n + at + 3)) None) None)
+      ≡ moved_found n (cond a (Some (at + 2)) (cond b (cond c (Some (at + 3)) None) None))
+  closing_by true b c = ap Some (omega arith)
+  closing_by false true true = ap Some (omega arith)
   closing_by false true false = refl
   closing_by false false c = refl
 

@@ -1,7 +1,7 @@
 -- Two concatenated files of kind 1: the rows of the first, and those of the second with their starts moved.
+use Rattle.std.specs.Prelude.{None}
 use mathlib.Core.Path.{◌≡◌, refl, sym, ap, subst, ◌∙◌}
 use mathlib.Core.List.{List, [], ◌∷◌, ◌++◌, map}
-use mathlib.Core.Option.{none}
 use Prim.Native.Nat.{ℕ, ◌+◌, ◌≤◌}
 use native.Mathlib.Omega.{arith}
 use lib.ListN.{length, take, length-append, length-map}
@@ -93,7 +93,7 @@ module _ (s t : List ℕ) {rows others : List Row} (first_kind : OfKind kind_1 s
       }
 
   -- It has no general header.
-  pub joined_general : general_header (s ++ t) (joined_rows (length s) rows others) ≡ none
+  pub joined_general : general_header (s ++ t) (joined_rows (length s) rows others) ≡ None
   unfolding joined
   joined_general = rows-general joined refl
 

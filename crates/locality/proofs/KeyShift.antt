@@ -1,15 +1,13 @@
 -- The rules on keys see keys and values, and no spans: what a header says is judged the same where its entries are moved.
+use Rattle.std.specs.Prelude.{Option, None, Some, is_none, option_map}
 use mathlib.Core.Path.{◌≡◌, refl}
 use mathlib.Core.Bool.{Bool, true, false}
 use mathlib.Core.List.{List, [], ◌∷◌, map}
-use mathlib.Core.Option
-use mathlib.Core.Option.{Option, none, some}
 use Prim.Native.Nat.{ℕ, ◌+◌}
 use native.Mathlib.Omega.{arith}
 use borrow.Author.Tests.{le-leb, lt-leb, leb-true, leb-false}
 use lib.Dec.{eqb, leb}
 use Rattle.scan.specs.Byte.{same}
-use Rattle.scan.specs.Outcome.{is_none}
 use Rattle.scan.proofs.Cases.{by_test, by_option}
 use Rattle.header.specs.Entries.{lookup, value_in}
 use Rattle.header.specs.Entry.{Entry}
@@ -26,14 +24,14 @@ module _ (n : ℕ) where
 
   -- ---- Keys and values
 
-  pub lookup_moved : (k : List ℕ) (es : List Entry) → lookup k (moved es) ≡ Option.map (moved_entry n) (lookup k es)
+  pub lookup_moved : (k : List ℕ) (es : List Entry) → lookup k (moved es) ≡ option_map (moved_entry n) (lookup k es)
   unfolding lookup
   lookup_moved k [] = refl
   lookup_moved k (e ∷ es) = by_test (same e.key k) (λ t. rw t) (λ f. rw f (lookup_moved k es))
 
-  pub value_kept : (o : Option Entry) → Option.map (λ (e : Entry). e.value) (Option.map (moved_entry n) o) ≡ Option.map (λ (e : Entry). e.value) o
-  value_kept none = refl
-  value_kept (some e) = refl
+  pub value_kept : (o : Option Entry) → option_map (λ (e : Entry). e.value) (option_map (moved_entry n) o) ≡ option_map (λ (e : Entry). e.value) o
+  value_kept None = refl
+  value_kept (Some e) = refl
 
   value_moved : (k : List ℕ) (es : List Entry) → value_in k (moved es) ≡ value_in k es
   value_moved k es = rw (lookup_moved k es) (value_kept (lookup k es))

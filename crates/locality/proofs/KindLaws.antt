@@ -1,8 +1,8 @@
 -- The kind of a file and its general header, by the rules that its first header gives.
+use Rattle.std.specs.Prelude.{None, Some}
 use mathlib.Core.Path.{◌≡◌, refl, sym, ap, ◌∙◌}
 use mathlib.Core.Logic.{⊎_elim}
 use mathlib.Core.List.{List, [], ◌∷◌, Memᴰ}
-use mathlib.Core.Option.{none, some}
 use Prim.Native.Nat.{ℕ, ◌≤◌}
 use native.Mathlib.Omega.{arith}
 use lib.ListN.{length}
@@ -37,13 +37,13 @@ kind_2_rules {r = r} k f = go k.is
 -- ---- The rows
 
 -- All blocks of a file without a general header are data blocks.
-pub data_kind : {r : Rules} {start : ℕ} {es : List Entry} {row : Row} → r.general ≡ none → HasRole r start es row → row.kind ≡ 1
+pub data_kind : {r : Rules} {start : ℕ} {es : List Entry} {row : Row} → r.general ≡ None → HasRole r start es row → row.kind ≡ 1
 data_kind g (plain-block q b i) = b
 data_kind g (general_block q x z b i) = absurd (none_some (sym g ∙ x))
 data_kind g (data_block q x b f i) = b
 
 -- The first block of one that has a general header.
-general_kind : {r : Rules} {es ds : List Entry} {row : Row} {count : ℕ} → r.general ≡ some count → Declares ds r → HasRole r 0 es row → row.kind ≡ 0
+general_kind : {r : Rules} {es ds : List Entry} {row : Row} {count : ℕ} → r.general ≡ Some count → Declares ds r → HasRole r 0 es row → row.kind ≡ 0
 general_kind g (plain n e) role = absurd (none_some (ap (λ (r : Rules). r.general) (sym e) ∙ g))
 general_kind g (data-first h e) role = absurd (none_some (ap (λ (r : Rules). r.general) (sym e) ∙ g))
 general_kind g (general-first h) (plain-block q b i) = absurd (kinds_differ (sym q ∙ h.kind))
@@ -51,36 +51,36 @@ general_kind g (general-first h) (general_block q x z b i) = b
 general_kind g (general-first h) (data_block q x b f i) = ⊎_elim (λ n. absurd (none_some (sym n ∙ g))) (λ n. absurd (n refl)) x
 
 -- Such a file is of kind 2.
-asking_two : {r : Rules} {ds : List Entry} {count : ℕ} → r.general ≡ some count → Declares ds r → r.kind ≡ kind_2
+asking_two : {r : Rules} {ds : List Entry} {count : ℕ} → r.general ≡ Some count → Declares ds r → r.kind ≡ kind_2
 asking_two g (plain n e) = absurd (none_some (ap (λ (r : Rules). r.general) (sym e) ∙ g))
 asking_two g (data-first h e) = ap (λ (r : Rules). r.kind) e
 asking_two g (general-first h) = h.kind
 
 module _ {s : List ℕ} {rows : List Row} (c : Partition s rows) where
-  pub row_kind : c.rules.general ≡ none → {row : Row} → Memᴰ row rows → row.kind ≡ 1
+  pub row_kind : c.rules.general ≡ None → {row : Row} → Memᴰ row rows → row.kind ≡ 1
   row_kind g m = data_kind g (block_of_lem c m).2.rules.role
 
   -- The rows show whether there is a general header.
-  pub rules_general : general_header s rows ≡ none → c.rules.general ≡ none
+  pub rules_general : general_header s rows ≡ None → c.rules.general ≡ None
   rules_general e = by_option c.rules.general (λ g. g) (λ count g. absurd (go rows c.blocks c.not_empty e g))
     where
       go : (xs : List Row) → Chain (SpacedBlock s c.rules) (λ at. Gap s c.rules.kind at (length s)) 0 xs → 1 ≤ length xs
-          → general_header s xs ≡ none → {count : ℕ} → c.rules.general ≡ some count → ⊥
+          → general_header s xs ≡ None → {count : ℕ} → c.rules.general ≡ Some count → ⊥
       go [] b l q g = omega arith
       go (x ∷ xs) b l q g =
           let d = c.first_header.declares in
           let z : 0 ≡ x.start = b.1.gap.end_to_end (asking_two g d) in
           none_some (sym (rw (general_kind g d (rw (sym z) at b.1.block.rules.role)) at q))
 
-  pub rows-general : c.rules.general ≡ none → general_header s rows ≡ none
+  pub rows-general : c.rules.general ≡ None → general_header s rows ≡ None
   rows-general g = go rows (λ x m. row_kind g m)
     where
-      go : (xs : List Row) → ((x : Row) → Memᴰ x xs → x.kind ≡ 1) → general_header s xs ≡ none
+      go : (xs : List Row) → ((x : Row) → Memᴰ x xs → x.kind ≡ 1) → general_header s xs ≡ None
       go [] all = refl
       go (x ∷ xs) all = rw (all x (Memᴰ.head refl))
 
 -- A file of kind 1 has none.
-pub plain_general : {s : List ℕ} {rows : List Row} → OfKind kind_1 s → Partition s rows → general_header s rows ≡ none
+pub plain_general : {s : List ℕ} {rows : List Row} → OfKind kind_1 s → Partition s rows → general_header s rows ≡ None
 plain_general k c = rows-general c (ap (λ (r : Rules). r.general) (plain_rules_lem k c.first_header))
 
 -- ---- The kind, by the table
@@ -106,12 +106,12 @@ kind_by_row c m k z =
 -- ---- A block as a file of its own
 
 -- Its header, as a first header, gives the file's rules: in kind 2,
-declared_data : {r : Rules} {ds : List Entry} → r.general ≡ none → r.kind ≡ kind_2 → Declares ds r → r ≡ plain_rules kind_2
+declared_data : {r : Rules} {ds : List Entry} → r.general ≡ None → r.kind ≡ kind_2 → Declares ds r → r ≡ plain_rules kind_2
 declared_data g k (plain n e) = absurd (kinds_differ (ap (λ (r : Rules). r.kind) (sym e) ∙ k))
 declared_data g k (data-first h e) = e
 declared_data g k (general-first h) = absurd (none_some (sym g ∙ h.general))
 
-pub declares_data : {r : Rules} {start : ℕ} {es ds : List Entry} {row : Row} → r.general ≡ none → r.kind ≡ kind_2 → Declares ds r → HasRole r start es row
+pub declares_data : {r : Rules} {start : ℕ} {es ds : List Entry} {row : Row} → r.general ≡ None → r.kind ≡ kind_2 → Declares ds r → HasRole r start es row
     → Declares es r
 declares_data g k d (plain-block q b i) = absurd (kinds_differ (sym q ∙ k))
 declares_data g k d (general_block q x z b i) = absurd (none_some (sym g ∙ x))

@@ -1,10 +1,10 @@
 -- The shift law and what follows from it, stated. Their proofs are in the files beside this one.
+use Rattle.std.specs.Prelude.{None, Some, slice_get}
 use mathlib.Core.Path.{◌≡◌}
 use mathlib.Core.Bool.{Bool}
 use mathlib.Core.List.{List, ◌++◌, map, Memᴰ}
-use mathlib.Core.Option.{none, some}
 use Prim.Native.Nat.{ℕ, ◌+◌, ◌≤◌}
-use lib.ListN.{length, take, drop, get_elem?}
+use lib.ListN.{length, take, drop}
 use Rattle.header.specs.Entries.{entries}
 use Rattle.header.specs.Entry.{Entry, body_of}
 use Rattle.header.specs.Frame.{header_at}
@@ -91,8 +91,8 @@ kind_by_row = KindLaws.kind_by_row
 -- ---- A block as a file of its own
 
 -- In a file without a general header: every block of kind 2, and every block of kind 1 whose header does not start with an EDF_ key.
-module _ {s : List ℕ} {rows : List Row} (file : AcceptedFile s rows) (no_general : general_header s rows ≡ none) (k : ℕ) {row : Row}
-    (at : get_elem? rows k ≡ some row) where
+module _ {s : List ℕ} {rows : List Row} (file : AcceptedFile s rows) (no_general : general_header s rows ≡ None) (k : ℕ) {row : Row}
+    (at : slice_get rows k ≡ Some row) where
   pub kind_2_alone : OfKind kind_2 s → AloneBlock s k row
   kind_2_alone = AloneBlocks.kind_2_alone file no_general k at
 

@@ -1,35 +1,36 @@
 -- Rows by their numbers, in lists that are moved and joined; rows and spans that are moved by nothing.
+use Rattle.std.specs.Prelude.{Some, slice_get}
+use Rattle.std.proofs.lemmas.Option.{same_Some}
 use mathlib.Core.Path.{◌≡◌, sym, ap}
 use mathlib.Core.List.{List, [], ◌∷◌, ◌++◌, map, Memᴰ}
-use mathlib.Core.Option.{some, some-injective}
 use Prim.Native.Nat.{ℕ, zero, suc, ◌+◌}
 use native.Mathlib.Omega.{arith}
-use lib.ListN.{length, get_elem?}
+use lib.ListN.{length}
 use Rattle.scan.specs.declared.Span.{Span}
 use Rattle.scan.proofs.Cases.{none_some}
 use Rattle.blocks.specs.declared.Row.{Row}
 use Rattle.locality.specs.Moved.{moved_span, starting_at, moved_row}
 
 module _ {A : Type 0} where
-  pub member_at : (l : List A) (k : ℕ) {x : A} → get_elem? l k ≡ some x → Memᴰ x l
+  pub member_at : (l : List A) (k : ℕ) {x : A} → slice_get l k ≡ Some x → Memᴰ x l
   member_at [] k e = absurd (none_some e)
-  member_at (y ∷ l) zero {x} e = Memᴰ.head (sym (some-injective y x e))
+  member_at (y ∷ l) zero {x} e = Memᴰ.head (sym (same_Some y x e))
   member_at (y ∷ l) (suc k) e = Memᴰ.tail (member_at l k e)
 
   -- Of the first of two lists,
-  pub front_at : (l m : List A) (k : ℕ) {x : A} → get_elem? l k ≡ some x → get_elem? (l ++ m) k ≡ some x
+  pub front_at : (l m : List A) (k : ℕ) {x : A} → slice_get l k ≡ Some x → slice_get (l ++ m) k ≡ Some x
   front_at [] m k e = absurd (none_some e)
   front_at (y ∷ l) m zero e = e
   front_at (y ∷ l) m (suc k) e = front_at l m k e
 
   -- and of the second.
-  pub back_at : (l m : List A) (k : ℕ) {x : A} → get_elem? m k ≡ some x → get_elem? (l ++ m) (length l + k) ≡ some x
+  pub back_at : (l m : List A) (k : ℕ) {x : A} → slice_get m k ≡ Some x → slice_get (l ++ m) (length l + k) ≡ Some x
   back_at [] m k e = let z : 0 + k ≡ k = omega arith in rw z e
   back_at (y ∷ l) m k e = let z : suc (length l) + k ≡ suc (length l + k) = omega arith in rw z (back_at l m k e)
 
-  pub map_at : {B : Type 0} (f : A → B) (l : List A) (k : ℕ) {x : A} → get_elem? l k ≡ some x → get_elem? (map f l) k ≡ some (f x)
+  pub map_at : {B : Type 0} (f : A → B) (l : List A) (k : ℕ) {x : A} → slice_get l k ≡ Some x → slice_get (map f l) k ≡ Some (f x)
   map_at f [] k e = absurd (none_some e)
-  map_at f (y ∷ l) zero {x} e = ap (λ (z : A). some (f z)) (some-injective y x e)
+  map_at f (y ∷ l) zero {x} e = ap (λ (z : A). Some (f z)) (same_Some y x e)
   map_at f (y ∷ l) (suc k) e = map_at f l k e
 
 pub row_unmoved : (row : Row) → moved_row 0 row ≡ row

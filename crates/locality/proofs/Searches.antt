@@ -1,4 +1,5 @@
 -- A list behind another: its bytes stand there at offsets moved by the length of the first, and a search finds the same.
+use Rattle.std.specs.Prelude.{Option, ℕ, Some, None}
 use mathlib.Core.Path.{◌≡◌, refl}
 use mathlib.Core.Bool.{Bool}
 use mathlib.Core.List.{List, [], ◌∷◌, ◌++◌}
@@ -8,8 +9,6 @@ use lib.ListN.{length, take, drop}
 use lib.Seq.{take-append-add, drop-append-add, get_or-append-add}
 use Rattle.scan.specs.Byte.{byte, between, bytes_at}
 use Rattle.scan.specs.Search.{first_with, first_from}
-use Rattle.scan.specs.declared.Found.{Found}
-use Rattle.scan.specs.declared.Found.TheVariants.{At, Nothing}
 use Rattle.scan.specs.declared.Span.{Span}
 use Rattle.scan.proofs.Cases.{by_test}
 use Rattle.locality.specs.Moved.{moved_span}
@@ -32,9 +31,9 @@ module _ (p s : List ℕ) where
 
 -- ---- Searches
 
-abbrev pub moved_found : ℕ → Found → Found
-moved_found n (At i) = At (n + i)
-moved_found n Nothing = Nothing
+abbrev pub moved_found : ℕ → Option ℕ → Option ℕ
+moved_found n (Some i) = Some (n + i)
+moved_found n None = None
 
 module _ (test : ℕ → Bool) (n : ℕ) where
   with_shift : (l : List ℕ) (at : ℕ) → first_with test l (n + at) ≡ moved_found n (first_with test l at)
@@ -50,6 +49,6 @@ unfolding first_from
 search_shift test p s at = rw (drop-append-add p s at) (with_shift test (length p) (drop at s) at)
 
 -- By what a search answers, with the equation in hand.
-pub by_found {ℓ} : {X : Type ℓ} (f : Found) → ((i : ℕ) → f ≡ At i → X) → (f ≡ Nothing → X) → X
-by_found (At i) g h = g i refl
-by_found Nothing g h = h refl
+pub by_found {ℓ} : {X : Type ℓ} (f : Option ℕ) → ((i : ℕ) → f ≡ Some i → X) → (f ≡ None → X) → X
+by_found (Some i) g h = g i refl
+by_found None g h = h refl

@@ -1,8 +1,7 @@
 -- The statements of a header in a file behind another: the same, or the same error, with their offsets moved by the length of the first.
+use Rattle.std.specs.Prelude.{Option, None, Some, ℕ, option_map, Ok, Err}
 use mathlib.Core.Path.{◌≡◌, refl, sym, ap, ◌∙◌}
 use mathlib.Core.List.{List, ◌∷◌, ◌++◌, map}
-use mathlib.Core.Option
-use mathlib.Core.Option.{Option, none, some}
 use Prim.Native.Nat.{ℕ, zero, suc, ◌+◌, ◌≤◌}
 use native.Mathlib.Omega.{arith}
 use borrow.Author.Tests.{lt-ltb, le-ltb, ltb-true, ltb-false}
@@ -10,18 +9,14 @@ use lib.Dec.{ltb}
 use lib.ListN.{length, length-append}
 use lib.Seq.{take-append-add}
 use Rattle.scan.specs.Search.{first_from, is}
-use Rattle.scan.specs.declared.Found.{Found}
-use Rattle.scan.specs.declared.Found.TheVariants.{At, Nothing}
 use Rattle.scan.proofs.Cases.{by_test, by_option}
 use Rattle.scan.proofs.Chains.{chain_unique}
 use Rattle.scan.proofs.Finds.{Finds, found, missing, finds_some, finds_none}
 use Rattle.text.specs.Text.{every}
 use Rattle.text.specs.Whitespace.{visible}
 use Rattle.header.specs.Entry.{body_of, key}
-use Rattle.header.specs.Statements.{next_by, statement_at, continued, statements_within, statements_from, is_short, are_distinct, statements_of}
+use Rattle.header.specs.Statements.{next_by, statement_at, continued, statements_within, statements_from, is_short, are_distinct, statements_of, Next, malformed}
 use Rattle.header.specs.declared.Header.{Header}
-use Rattle.header.specs.declared.Next.{Next}
-use Rattle.header.specs.declared.Next.TheVariants.{One, End, Malformed}
 use Rattle.header.specs.declared.Statement.{Statement}
 use Rattle.header.proofs.StatementLaws.{finds-within, finds-statements}
 use Rattle.header.proofs.Unambiguous.{statements-sure}
@@ -32,9 +27,9 @@ use Rattle.locality.proofs.Searches.{moved_found, search_shift}
 -- ---- One statement
 
 abbrev moved_next : ℕ → Next → Next
-moved_next n (One t) = One (moved_statement n t)
-moved_next n End = End
-moved_next n Malformed = Malformed
+moved_next n (Ok (Some t)) = Ok (Some (moved_statement n t))
+moved_next n (Ok None) = Ok None
+moved_next n (Err m) = Err malformed
 
 before_shift : (n d e : ℕ) → ltb (n + d) (n + e) ≡ ltb d e
 before_shift n d e =
@@ -42,11 +37,11 @@ before_shift n d e =
     (λ t. rw t (lt-ltb (n + d) (n + e) (omega (arith, ltb-true d e t))))
     (λ f. rw f (le-ltb (n + d) (n + e) (omega (arith, ltb-false d e f))))
 
-next_shift : (n at : ℕ) (d f e : Found) → next_by (n + at) (moved_found n d) (moved_found n f) (moved_found n e) ≡ moved_next n (next_by at d f e)
-next_shift n at Nothing f e = refl
-next_shift n at (At d) Nothing e = refl
-next_shift n at (At d) (At f) Nothing = refl
-next_shift n at (At d) (At f) (At e) =
+next_shift : (n at : ℕ) (d f e : Option ℕ) → next_by (n + at) (moved_found n d) (moved_found n f) (moved_found n e) ≡ moved_next n (next_by at d f e)
+next_shift n at None f e = refl
+next_shift n at (Some d) None e = refl
+next_shift n at (Some d) (Some f) None = refl
+next_shift n at (Some d) (Some f) (Some e) =
     by_test (ltb d e)
     (λ t. by_test (ltb e f)
     (λ u. rw (before_shift n d e, before_shift n e f, t, u))
@@ -71,30 +66,30 @@ module _ (p s : List ℕ) where
       (next_shift (length p) at (first_from visible s at) (first_from (is 59) s at) (first_from (is 61) s at))
 
   moved_cons : (t : Statement) (o : Option (List Statement))
-      → Option.map (λ (ts : List Statement). moved_statement (length p) t ∷ ts) (Option.map (map (moved_statement (length p))) o)
-      ≡ Option.map (map (moved_statement (length p))) (Option.map (λ (ts : List Statement). t ∷ ts) o)
-  moved_cons t none = refl
-  moved_cons t (some ts) = refl
+      → option_map (λ (ts : List Statement). moved_statement (length p) t ∷ ts) (option_map (map (moved_statement (length p))) o)
+      ≡ option_map (map (moved_statement (length p))) (option_map (λ (ts : List Statement). t ∷ ts) o)
+  moved_cons t None = refl
+  moved_cons t (Some ts) = refl
 
-  within_shift : (m at : ℕ) → statements_within m (p ++ s) (length p + at) ≡ Option.map (map (moved_statement (length p))) (statements_within m s at)
+  within_shift : (m at : ℕ) → statements_within m (p ++ s) (length p + at) ≡ option_map (map (moved_statement (length p))) (statements_within m s at)
   unfolding statements_within
   within_shift zero at = refl
   within_shift (suc m) at = rw (statement_shift at) (go (statement_at s at) (λ k. within_shift m k))
     where
-      go : (x : Next) → ((k : ℕ) → statements_within m (p ++ s) (length p + k) ≡ Option.map (map (moved_statement (length p))) (statements_within m s k))
+      go : (x : Next) → ((k : ℕ) → statements_within m (p ++ s) (length p + k) ≡ option_map (map (moved_statement (length p))) (statements_within m s k))
           → continued (moved_next (length p) x) (λ next. statements_within m (p ++ s) next)
-          ≡ Option.map (map (moved_statement (length p))) (continued x (λ next. statements_within m s next))
-      go (One t) more =
+          ≡ option_map (map (moved_statement (length p))) (continued x (λ next. statements_within m s next))
+      go (Ok (Some t)) more =
           let e : suc (length p + t.end) ≡ length p + suc t.end = omega arith in
           rw (e, more (suc t.end)) (moved_cons t (statements_within m s (suc t.end)))
-      go End more = refl
-      go Malformed more = refl
+      go (Ok None) more = refl
+      go (Err m) more = refl
 
-  statements_shift : (at : ℕ) → statements_from (p ++ s) (length p + at) ≡ Option.map (map (moved_statement (length p))) (statements_from s at)
+  statements_shift : (at : ℕ) → statements_from (p ++ s) (length p + at) ≡ option_map (map (moved_statement (length p))) (statements_from s at)
   unfolding statements_from
   statements_shift at =
       within_shift (suc (length (p ++ s))) at
-      ∙ ap (Option.map (map (moved_statement (length p)))) (statements_count s (length (p ++ s)) at (omega (arith, length-append p s)))
+      ∙ ap (option_map (map (moved_statement (length p)))) (statements_count s (length (p ++ s)) at (omega (arith, length-append p s)))
 
 -- ---- Of a header
 

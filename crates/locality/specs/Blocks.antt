@@ -1,7 +1,5 @@
 -- Accepted files, two of them concatenated, and a block as a file of its own (02, No. 3). Facts about the files' bytes.
-use Rattle.std.specs.Prelude.{◌≡◌, cond, List, [], ◌∷◌, ◌++◌, map, ℕ, ◌+◌, ◌≤◌, eqb, length, take}
-use Rattle.std.proofs.Math.Option.{Option, none, some}
-use Rattle.std.proofs.Math.ListN.{get_elem?}
+use Rattle.std.specs.Prelude.{◌≡◌, cond, List, [], ◌∷◌, ◌++◌, map, ℕ, ◌+◌, ◌≤◌, eqb, length, take, Option, None, Some, slice_get}
 use Rattle.scan.specs.Byte.{bytes_at}
 use Rattle.header.specs.Entry.{Entry}
 use Rattle.header.specs.declared.Header.{Header}
@@ -23,8 +21,8 @@ block_bytes s row = bytes_at s (record { offset = row.start; length = row.header
 
 -- The bytes of the general header, if the first block is a general block.
 abbrev pub general_header : List ℕ → List Row → Option (List ℕ)
-general_header s [] = none
-general_header s (first ∷ rows) = cond (eqb first.kind 0) (some (take first.header s)) none
+general_header s [] = None
+general_header s (first ∷ rows) = cond (eqb first.kind 0) (Some (take first.header s)) None
 
 -- ---- Two concatenated files
 
@@ -67,6 +65,6 @@ pub record HeaderAlone (l : List ℕ) (a : ℕ) (h : Header) (ts : List Statemen
 pub record AloneBlock (s : List ℕ) (k : ℕ) (row : Row) : Type 0 where
   pub rows : List Row
   pub file : AcceptedFile s rows
-  pub at : get_elem? rows k ≡ some row
-  pub no_general : general_header s rows ≡ none
+  pub at : slice_get rows k ≡ Some row
+  pub no_general : general_header s rows ≡ None
   pub alone : Partition (block_bytes s row) (starting_at 0 row ∷ [])

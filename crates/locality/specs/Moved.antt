@@ -1,6 +1,6 @@
 -- What stands in a file, with its offsets moved by n: as it stands where n bytes more come before it.
-use Rattle.std.specs.Prelude.{cond, ℕ, ◌+◌, leb}
-use Rattle.scan.specs.Outcome.{Outcome, ok, failed, error_at}
+use Rattle.std.specs.Prelude.{cond, ℕ, ◌+◌, leb, Ok, Err}
+use Rattle.scan.specs.Outcome.{Outcome, error_at}
 use Rattle.scan.specs.declared.Error.{Error}
 use Rattle.scan.specs.declared.Span.{Span}
 use Rattle.header.specs.Entry.{Entry}
@@ -22,13 +22,13 @@ moved_error n e = error_at e.code (n + e.position)
 
 -- An answer: its value by f, or its error.
 abbrev pub moved_outcome : {A B : Type 0} → ℕ → (A → B) → Outcome A → Outcome B
-moved_outcome n f (ok x) = ok (f x)
-moved_outcome n f (failed e) = failed (moved_error n e)
+moved_outcome n f (Ok x) = Ok (f x)
+moved_outcome n f (Err e) = Err (moved_error n e)
 
 -- The same where the error's position is no offset of what is moved: its value by f, its error as it is.
 abbrev pub map_outcome : {A B : Type 0} → (A → B) → Outcome A → Outcome B
-map_outcome f (ok x) = ok (f x)
-map_outcome f (failed e) = failed e
+map_outcome f (Ok x) = Ok (f x)
+map_outcome f (Err e) = Err e
 
 -- ---- A header, and what it says
 

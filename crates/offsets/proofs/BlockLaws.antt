@@ -105,11 +105,11 @@ module _ (f g : List ℕ → List ℕ) (w : ℕ) (keeps : (l : List ℕ) → len
       ((λ j. take w (drop (x j) (sym (append-nil (joined n p)) j)))
       ∙ piece_at w n p (λ j k. let b = inside j k in keeps _ (length_element w s (place at up down j) (omega (arith, b.1)))) i [] h))
 
-  pub by_way : (h : ℕ) (d q r : List ℕ) → h ≡ w * n → q ≡ row_of g w s at up down n → r ≡ row_of f w (take (h - 0) (drop 0 (patched 0 (h - 0) d q))) 0 w 0 n
+  pub by_way : (h : ℕ) (d q r : List ℕ) → h ≡ w * n → q ≡ row_of g w s at up down n → r ≡ row_of f w (take h (q ++ drop h d)) 0 w 0 n
       → r ≡ row_of (λ (l : List ℕ). f (g l)) w s at up down n
   by_way h d q r e a b =
-      let m : length q ≡ h - 0 = ap length a ∙ length_row g w keeps s at up down n inside ∙ omega arith in
-      b ∙ ap (λ (l : List ℕ). row_of f w l 0 w 0 n) (take_at q (drop (h - 0) d) (h - 0) m ∙ a) ∙ row_of_row
+      let m : length q ≡ h = ap length a ∙ length_row g w keeps s at up down n inside ∙ sym e in
+      b ∙ ap (λ (l : List ℕ). row_of f w l 0 w 0 n) (take_at q (drop h d) h m ∙ a) ∙ row_of_row
 
 -- The bytes turned after the low byte is written first.
 pub turned-after : (w : ℕ) (s : Shift) (order asked : ℕ) (back : Bool) (src : List ℕ) (at up down n : ℕ) → eqb asked 1 ≡ back

@@ -3,3 +3,4 @@
 // Rows of elements with an offset added.
 pub mod adding;
 pub mod blocks;
+pub mod rows;

@@ -5,31 +5,24 @@
 // everywhere. `stdout` is worked out by hand from the documents.
 mod lend;
 
-use blocks::{Opened, Row};
-use lend::open_held;
+use blocks::Row;
+use lend::{Held, open_held};
 use scan::{Error, Span};
 use std::io;
 
-fn show(rt: &impl Print, w: &[u8]) -> io::Result<()> {
-    rt.write_all(w)
-}
-
-fn count(rt: &impl Print, n: usize) -> io::Result<()> {
-    print!(rt; " {n}")
-}
-
 fn failure(rt: &impl Print, e: Error) -> io::Result<()> {
-    let code = e.code;
-    show(rt, b" refused")?;
-    count(rt, code as usize)?;
-    count(rt, e.position)
+    let Error { code, position } = e;
+    print!(rt; " refused {code} {position}")
 }
 
 fn place(rt: &impl Print, row: Row) -> io::Result<()> {
-    show(rt, b" |")?;
-    count(rt, row.start)?;
-    count(rt, row.header)?;
-    count(rt, row.size)
+    let Row {
+        start,
+        header,
+        size,
+        ..
+    } = row;
+    print!(rt; " | {start} {header} {size}")
 }
 
 fn open(rt: &impl Print, file: &[u8]) -> io::Result<()> {
@@ -42,16 +35,14 @@ fn open(rt: &impl Print, file: &[u8]) -> io::Result<()> {
         instance: 7,
         memory: 7,
     };
-    let h = open_held(file, filling);
-    let rows = h.rows;
-    let answer = h.answer;
+    let Held { rows, answer } = open_held(file, filling);
     match answer {
-        Opened::Blocks(n) => count(rt, n)?,
-        Opened::Failed(e) => failure(rt, e)?,
+        Ok(n) => print!(rt; " {n}")?,
+        Err(e) => failure(rt, e)?,
     }
     place(rt, rows[0])?;
     place(rt, rows[255])?;
-    show(rt, b"\n")
+    println!(rt)
 }
 
 fn open_first(rt: &impl Print, s: &[u8; 66048], n: usize) -> io::Result<()> {
@@ -75,8 +66,7 @@ fn closed_at(rt: &impl Print, at: usize) -> io::Result<()> {
     }
     s[0] = b'{';
     s[at] = b'}';
-    let last = at + 1;
-    s[last] = b'\n';
+    s[at + 1] = b'\n';
     open_first(rt, &s, at + 2)
 }
 

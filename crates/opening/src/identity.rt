@@ -1,34 +1,19 @@
-// Whether two blocks have the same identity, by the values of its three numbers.
+// Whether a block's identity is that of one before.
 ghost use Rattle.std.specs.Prelude.{◌≡◌};
-ghost use Rattle.blocks.specs.Opening.{same_number, same_identity};
-ghost use Rattle.opening.specs.Core.{searched_for};
+ghost use Rattle.blocks.specs.Opening.{same_identity, repeats};
 
 use blocks::Row;
 
-fn same_number(a: i64, b: i64) -> bool
-    ensures { result ≡ same_number a b }
-{
-    a == b
-}
-
-pub fn same_identity(x: Row, y: Row) -> bool
+#[tactic(auto, unfolding(blocks::specs::Opening::same_identity), using(crate::proofs::Searches::same_bits))]
+fn same_identity(x: Row, y: Row) -> bool
     ensures { result ≡ same_identity x y }
 {
-    if x.instance != y.instance {
-        return false;
-    }
-    if same_number(x.sequence, y.sequence) {
-        return same_number(x.memory, y.memory);
-    }
-    false
+    x.instance == y.instance && x.sequence == y.sequence && x.memory == y.memory
 }
 
-// How many of the rows before are searched for the identity of a row: none if it has no identity.
-pub fn searched(x: Row, count: usize) -> usize
-    ensures { result ≡ searched_for x count }
+// Whether a row repeats the identity of one of the others. A row without an identity, whose instance is 0, repeats none.
+pub fn repeats(rows: &[Row], row: Row) -> bool
+    ensures { result ≡ repeats rows.now row }
 {
-    if x.instance == 0 {
-        return 0;
-    }
-    count
+    row.instance != 0 && rows.iter().any(|other| same_identity(*other, row))
 }

@@ -6,7 +6,7 @@ pub mod run;
 pub mod steps;
 pub mod table;
 
-use blocks::{Accepted, BLOCK_LIMIT, Opened, Row};
+use blocks::{BLOCK_LIMIT, Row};
 
 // The row that stands where none is placed yet.
 pub const BLANK: Row = Row {
@@ -19,17 +19,9 @@ pub const BLANK: Row = Row {
     memory: 0,
 };
 
-// What comes next: a block more, or the answer.
+// A file that was opened: the rows of its blocks are the first `count`.
 #[derive(Clone, Copy)]
-pub enum Step {
-    Block(Accepted),
-    End(Opened),
-}
-
-// A file that was opened: the answer, and the rows, of which the first `count` are those of its blocks.
-#[derive(Clone, Copy)]
-pub struct Opening {
+pub struct Opened {
     pub rows: [Row; BLOCK_LIMIT],
     pub count: usize,
-    pub answer: Opened,
 }

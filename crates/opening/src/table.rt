@@ -4,10 +4,11 @@ ghost use Rattle.blocks.specs.Limits.{file_limit};
 ghost use Rattle.blocks.specs.Opening.{opened_into};
 ghost use Rattle.opening.specs.Table.{Plans};
 
-use super::Opening;
+use super::Opened;
 use super::run::opened;
-use super::steps::failed;
 use blocks::{BLOCK_LIMIT, FILE_LIMIT};
+use header::error_at;
+use scan::Error;
 
 // Whether a file of so many bytes may be opened.
 pub fn within_limit(bytes: usize) -> bool
@@ -17,14 +18,14 @@ pub fn within_limit(bytes: usize) -> bool
 }
 
 // For a table of n rows.
-pub fn planned(file: &[u8], n: usize) -> Opening
+pub fn planned(file: &[u8], n: usize) -> Result<Opened, Error>
     ensures { Plans (opened_into n file.now) n result }
 {
     if !within_limit(file.len()) {
-        return failed(1, 0);
+        return Err(error_at(1, 0));
     }
     if n < BLOCK_LIMIT {
-        return failed(2, 0);
+        return Err(error_at(2, 0));
     }
     opened(file)
 }

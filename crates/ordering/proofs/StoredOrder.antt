@@ -20,7 +20,7 @@ use Rattle.raster.proofs.OrderLaws.{as_three, order_extent}
 use Rattle.raster.proofs.Positions.{extent, position_cons}
 use Rattle.raster.proofs.RoundTrip.{number_bound, offset_zero}
 use Rattle.raster.proofs.Stored.{octets_part}
-use Rattle.frame.specs.File.{frame_type, pixel_bytes, stored_pixels, file_data}
+use Rattle.frame.specs.File.{frame_dims, frame_type, pixel_bytes, stored_pixels, file_data}
 use Rattle.rendering.specs.Render.{padding, filled}
 use Rattle.frame.specs.Shape.{shape_dims, IsShape}
 use Rattle.ordering.specs.Stored.{axis_at, steps_along, stored_steps}
@@ -28,8 +28,8 @@ use Rattle.frame.specs.declared.Frame.{Frame}
 use Rattle.frame.specs.declared.dims.Shape.{Shape}
 use Rattle.frame.proofs.Allowed.{Allowed, few_configurations}
 use Rattle.frame.proofs.Codes.{type_wide}
-use Rattle.frame.proofs.PixelLengths.{stored_length, data_length}
-use Rattle.frame.proofs.ShapeLaws.{few_product, shape_total, below}
+use Rattle.frame.proofs.PixelLengths.{stored_length}
+use Rattle.frame.proofs.ShapeLaws.{few_product, below}
 use Rattle.ordering.proofs.Orders.{order_axes, order_permutes}
 use Rattle.ordering.proofs.Walks.{Placed, placed, placed_bytes, walk_inside, some_dims}
 
@@ -251,13 +251,11 @@ module _ (f : Frame) (s : Shape) (allowed : Allowed f) (shape : IsShape f s) (pi
       (subst (λ (x : ℕ). Walked (stored_steps all w f.configuration) (dim_of all (axis 0)) x n3) (sym e2)
       (subst (λ (x : ℕ). Walked (stored_steps all w f.configuration) (dim_of all (axis 0)) (dim_of all (axis 1)) x) (sym e3) walked_along)))
 
-  -- The lengths of the pixels as stored, and with their filling.
+-- How long the pixels as stored are, and what fills them.
+module _ (f : Frame) (pixels : List ℕ) (whole : length pixels ≡ product (frame_dims f) * (frame_type f).width) where
   pub stored_whole : length (stored_pixels f pixels) ≡ length pixels
-  stored_whole = stored_length f pixels ∙ ap (λ (x : ℕ). x * w) (shape_total f s allowed shape) ∙ sym whole
+  stored_whole = stored_length f pixels ∙ sym whole
 
   pub data_is : (k : ℕ) → k ≡ padding (length pixels) → stored_pixels f pixels ++ replicate k 0 ≡ file_data f pixels
   unfolding file_data filled
   data_is k e = ap (λ (n : ℕ). stored_pixels f pixels ++ replicate n 0) (e ∙ ap padding (sym stored_whole))
-
-  pub stored_data_length : length (file_data f pixels) ≡ length pixels + padding (length pixels)
-  stored_data_length = data_length f pixels (sym stored_whole ∙ stored_length f pixels)

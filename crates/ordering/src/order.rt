@@ -23,13 +23,11 @@ fn dim_at(index: u8, s: Shape) -> usize
     requires { (1 ≤ index) × (index ≤ 3) }
     ensures { result ≡ dim_of (shape_dims s) (forward index) }
 {
-    if index == 1 {
-        return s.dim1;
+    match index {
+        1 => s.dim1,
+        2 => s.dim2,
+        _ => s.dim3,
     }
-    if index == 2 {
-        return s.dim2;
-    }
-    s.dim3
 }
 
 fn stride_at(index: u8, s: Shape, w: usize) -> usize
@@ -37,13 +35,11 @@ fn stride_at(index: u8, s: Shape, w: usize) -> usize
     requires small { Small s × (w ≤ 8) }
     ensures { result ≡ stride_of (shape_dims s) w (forward index) }
 {
-    if index == 1 {
-        return w;
+    match index {
+        1 => w,
+        2 => w * s.dim1,
+        _ => w * (s.dim1 * s.dim2),
     }
-    if index == 2 {
-        return w * s.dim1;
-    }
-    w * (s.dim1 * s.dim2)
 }
 
 fn run_along(d: Direction, s: Shape, w: usize) -> Run
@@ -54,18 +50,19 @@ fn run_along(d: Direction, s: Shape, w: usize) -> Run
     let dim = dim_at(d.index, s);
     let stride = stride_at(d.index, s, w);
     if d.backward {
-        return Run {
-            dim: dim,
+        Run {
+            dim,
             up: 0,
             down: stride,
             back: stride * (dim - 1),
-        };
-    }
-    Run {
-        dim: dim,
-        up: stride,
-        down: 0,
-        back: 0,
+        }
+    } else {
+        Run {
+            dim,
+            up: stride,
+            down: 0,
+            back: 0,
+        }
     }
 }
 
@@ -85,13 +82,10 @@ pub fn walk_of(number: u32, s: Shape, w: usize) -> Walk
     ensures dim1_value { (result.dim1 ≡ dim_of (shape_dims s) (axis_at number 0)) × (result.dim2 ≡ dim_of (shape_dims s) (axis_at number 1)) }
     ensures dim3_value { result.dim3 ≡ dim_of (shape_dims s) (axis_at number 2) }
 {
-    let o = order_of(number);
-    let first = o.first;
-    let second = o.second;
-    let third = o.third;
-    let a = run_along(first, s, w);
-    let b = run_along(second, s, w);
-    let c = run_along(third, s, w);
+    let order = order_of(number);
+    let a = run_along(order.first, s, w);
+    let b = run_along(order.second, s, w);
+    let c = run_along(order.third, s, w);
     let steps = Steps {
         at: a.back + b.back + c.back,
         up1: a.up,
@@ -102,7 +96,7 @@ pub fn walk_of(number: u32, s: Shape, w: usize) -> Walk
         down3: c.down,
     };
     Walk {
-        steps: steps,
+        steps,
         dim1: a.dim,
         dim2: b.dim,
         dim3: c.dim,

@@ -1,4 +1,4 @@
-// The letter and the number of an origin.
+// The letter and the number of an origin. Two functions, not a `From<Origin> for u8`: either would be that.
 ghost use Rattle.std.specs.Prelude.{◌≡◌};
 ghost use Rattle.origins.specs.Letter.{letter_of, number_of};
 

@@ -4,28 +4,19 @@
 pub mod letters;
 pub mod search;
 
-use keyword::{Origin, Traced};
+use keyword::Origin;
 
-// The fields, each as its keyword is found; that of the Dims is Dim_1.
+// One of something for each of the fields; that of the Dims is Dim_1's.
 #[derive(Clone, Copy)]
-pub struct Fields {
-    pub datatype: Traced,
-    pub byteorder: Traced,
-    pub compression: Traced,
-    pub dims: Traced,
-    pub configuration: Traced,
-    pub orientation: Traced,
-    pub offset: Traced,
+pub struct Fields<T> {
+    pub datatype: T,
+    pub byteorder: T,
+    pub compression: T,
+    pub dims: T,
+    pub configuration: T,
+    pub orientation: T,
+    pub offset: T,
 }
 
 // Where each field came from.
-#[derive(Clone, Copy)]
-pub struct Origins {
-    pub datatype: Origin,
-    pub byteorder: Origin,
-    pub compression: Origin,
-    pub dims: Origin,
-    pub configuration: Origin,
-    pub orientation: Origin,
-    pub offset: Origin,
-}
+pub type Origins = Fields<Origin>;

@@ -7,10 +7,10 @@ ghost use Rattle.origins.specs.Origins.{found_origins};
 
 use super::{Fields, Origins};
 use keyword::lookup::trace;
-use keyword::{Block, Origin, Traced};
+use keyword::{Block, Traced};
 
 // Each of the seven as its keyword is found.
-pub fn fields_of(file: &[u8], b: Block) -> Fields
+pub fn fields_of(file: &[u8], b: Block) -> Fields<Traced>
     ensures { found file.now result ≡ by_name (trace_in (view_at file.now b)) }
 {
     Fields {
@@ -24,24 +24,17 @@ pub fn fields_of(file: &[u8], b: Block) -> Fields
     }
 }
 
-fn origin_of(f: Traced) -> Origin
-    ensures { result ≡ f.origin }
-{
-    let origin = f.origin;
-    origin
-}
-
 // Where each came from.
-pub fn origins_of(f: Fields) -> Origins
+pub fn origins_of(f: Fields<Traced>) -> Origins
     ensures { result ≡ found_origins f }
 {
-    Origins {
-        datatype: origin_of(f.datatype),
-        byteorder: origin_of(f.byteorder),
-        compression: origin_of(f.compression),
-        dims: origin_of(f.dims),
-        configuration: origin_of(f.configuration),
-        orientation: origin_of(f.orientation),
-        offset: origin_of(f.offset),
+    Fields {
+        datatype: f.datatype.origin,
+        byteorder: f.byteorder.origin,
+        compression: f.compression.origin,
+        dims: f.dims.origin,
+        configuration: f.configuration.origin,
+        orientation: f.orientation.origin,
+        offset: f.offset.origin,
     }
 }

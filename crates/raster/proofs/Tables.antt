@@ -1,40 +1,40 @@
--- Tables by the code of a type: their entries are the type's, by one test that is computed over all codes.
-use mathlib.Core.Path.{◌≡◌, refl, sym, ap}
+-- The table by the code of a type: its entries are the type's.
+use mathlib.Core.Path.{◌≡◌, refl, ◌∙◌}
 use mathlib.Core.Logic.{inl, inr}
 use mathlib.Core.List.{List, [], ◌∷◌}
 use Prim.Native.Nat.{ℕ, zero, suc, ◌-◌, ◌≤◌, ◌<◌}
 use native.Mathlib.Omega.{arith}
-use borrow.Author.Tests.{eqb-true}
-use lib.Dec.{eqb}
-use lib.ListN.{get_or, get_or-eq_default}
-use Rattle.scan.proofs.Below.{all_at}
+use lib.ListN.{get_or}
+use Rattle.std.specs.Prelude.{slice_get, unwrap_or}
+use Rattle.std.proofs.lemmas.Option.{unwrap_or-slice_get}
+use Rattle.std.proofs.Math.ListN.{get_or-map}
 use Rattle.raster.specs.Strided.{Width}
-use Rattle.raster.specs.Types.{Class, unsigned, signed, float, class_number, DataType, types, type_of}
+use Rattle.raster.specs.Types.{class_number, DataType, types, type_of}
+use Rattle.raster.specs.declared.types.Class.{Class}
+use Rattle.raster.specs.declared.types.Class.TheVariants.{Unsigned as unsigned, Signed as signed, Float as float}
 
--- A type above the last code is that of no entry.
-no_type : (code : ℕ) → 11 ≤ code → type_of code ≡ record { word = []; width = 1; class = unsigned }
+-- ---- The table of widths and classes
+
+abbrev entry : DataType → ℕ × Class
+entry t = (t.width, t.class)
+
+-- The code 0 is no type's, and its entry is what is past the end.
+abbrev pub table : List (ℕ × Class)
+table =
+    (1, unsigned)
+    ∷ (1, unsigned) ∷ (1, signed)
+    ∷ (2, unsigned) ∷ (2, signed)
+    ∷ (4, unsigned) ∷ (4, signed) ∷ (4, float)
+    ∷ (8, unsigned) ∷ (8, signed) ∷ (8, float) ∷ []
+
+pub table_at : (code : ℕ) → unwrap_or (slice_get table code) (1, unsigned) ≡ ((type_of code).width, (type_of code).class)
 unfolding type_of types
-no_type code h = get_or-eq_default types _ {n = code - 1} (omega arith)
+table_at zero = refl
+table_at (suc code) =
+    let e : suc code - 1 ≡ code = omega arith in
+    rw e (unwrap_or-slice_get table (suc code) (1, unsigned) ∙ get_or-map entry types code (record { word = []; width = 1; class = unsigned }))
 
-abbrev pub widths : List ℕ
-widths = 1 ∷ 1 ∷ 1 ∷ 2 ∷ 2 ∷ 4 ∷ 4 ∷ 4 ∷ 8 ∷ 8 ∷ 8 ∷ []
-
-abbrev pub classes : List ℕ
-classes = 0 ∷ 0 ∷ 1 ∷ 0 ∷ 1 ∷ 0 ∷ 1 ∷ 2 ∷ 0 ∷ 1 ∷ 2 ∷ []
-
-pub width_at : (code : ℕ) → code < 11 → get_or widths code 0 ≡ (type_of code).width
-unfolding type_of types
-width_at code h = eqb-true _ _ (all_at (λ (k : ℕ). eqb (get_or widths k 0) (type_of k).width) 11 refl code h)
-
-pub class_at : (code : ℕ) → code < 11 → get_or classes code 0 ≡ class_number (type_of code).class
-unfolding type_of types
-class_at code h = eqb-true _ _ (all_at (λ (k : ℕ). eqb (get_or classes k 0) (class_number (type_of k).class)) 11 refl code h)
-
-pub width_past : (code : ℕ) → 11 ≤ code → 1 ≡ (type_of code).width
-width_past code h = sym (ap (λ (t : DataType). t.width) (no_type code h))
-
-pub class_past : (code : ℕ) → 11 ≤ code → 0 ≡ class_number (type_of code).class
-class_past code h = sym (ap (λ (t : DataType). class_number t.class) (no_type code h))
+-- ---- Widths and classes
 
 -- Every type has one of the four widths.
 abbrev Each : (DataType → Type 0) → List DataType → Type 0

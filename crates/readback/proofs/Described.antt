@@ -1,9 +1,9 @@
 -- A written file's block describes as the frame that it was written from, and its title reads as the same text.
+use Rattle.std.specs.Prelude.{Option, None, Some, Ok, option_map}
+use Rattle.scan.specs.Outcome.{present, ◌>>=◌}
 use mathlib.Core.Path.{◌≡◌, refl, sym, ap, ◌∙◌}
 use mathlib.Core.Bool.{true}
 use mathlib.Core.List.{List, [], ◌∷◌, map}
-use mathlib.Core.Option
-use mathlib.Core.Option.{Option, none, some}
 use Prim.Native.Nat.{ℕ, ◌*◌, ◌≤◌}
 use native.Mathlib.Omega.{arith}
 use borrow.Author.Tests.{le-leb}
@@ -12,7 +12,6 @@ use lib.ListN.{length, get_or, replicate, length-append}
 use mir.Syntax.{w64}
 use mir.Val.{SFits}
 use Rattle.scan.specs.Byte.{ascii}
-use Rattle.scan.specs.Outcome.{ok, present, ◌>>=◌}
 use Rattle.scan.proofs.Cases.{none_some}
 use Rattle.text.specs.Decimal.{decimal}
 use Rattle.text.specs.Text.{escaped_body, quoted_text, text_of, short_text}
@@ -25,7 +24,8 @@ use Rattle.keyword.specs.Keyword.{lookup_in, entry_of, text_in}
 use Rattle.keyword.specs.Viewing.{value_in}
 use Rattle.raster.specs.Axis.{configurations}
 use Rattle.raster.specs.Position.{product}
-use Rattle.raster.specs.Types.{Class, unsigned, signed, float}
+use Rattle.raster.specs.declared.types.Class.{Class}
+use Rattle.raster.specs.declared.types.Class.TheVariants.{Unsigned as unsigned, Signed as signed, Float as float}
 use Rattle.origins.specs.Fields.{by_name}
 use Rattle.description.specs.Describe.{Values, dims_of, words_of, offset_allowed, described, description_in, description_of}
 use Rattle.description.specs.Fields.{word_field, range_field, whole_field, found_first, dims_from}
@@ -50,14 +50,14 @@ use Rattle.readback.proofs.Written.{Fits, values_of, row_of, dims_shape}
 small : (n : ℕ) → n ≤ dim_limit → SFits w64 (pos n)
 small n h = record { sfits = omega arith }
 
-dims_read : (ds : List ℕ) → Each (Within 1 dim_limit) ds → dims_from (map (λ (d : ℕ). decimal (pos d)) ds) ≡ ok ds
+dims_read : (ds : List ℕ) → Each (Within 1 dim_limit) ds → dims_from (map (λ (d : ℕ). decimal (pos d)) ds) ≡ Ok ds
 unfolding dims_from
 dims_read [] h = refl
 dims_read (d ∷ ds) h =
     let r = each_head h in
     rw (decimal_back (pos d) (small d r.high), le-leb 1 d r.low, le-leb d dim_limit r.high, dims_read ds (each_tail h))
 
-dims_by_lem : {ds : List ℕ} → Dims ds → Each (Within 1 dim_limit) ds → dims_by (dim_text ds 0) (dim_text ds 1) (dim_text ds 2) none ≡ ok ds
+dims_by_lem : {ds : List ℕ} → Dims ds → Each (Within 1 dim_limit) ds → dims_by (dim_text ds 0) (dim_text ds 1) (dim_text ds 2) None ≡ Ok ds
 unfolding found_first
 dims_by_lem (one a) h = rw (dims_read (a ∷ []) h)
 dims_by_lem (two a b) h = rw (dims_read (a ∷ b ∷ []) h)
@@ -85,17 +85,17 @@ module _ {f : Frame} {title pixels s : List ℕ} (w : Writes f title pixels s) w
   looked : Looks look (values_of f pixels) (frame_dims f) title
   looked = written_looks w
 
-  words_are : words_of (by_name look) ≡ ok (record { datatype = f.datatype; byteorder = f.byteorder; compression = 1 })
+  words_are : words_of (by_name look) ≡ Ok (record { datatype = f.datatype; byteorder = f.byteorder; compression = 1 })
   unfolding words_of word_field
   words_are =
       rw (looked.type, (type_coded f.datatype w.allowed.datatype).code_is, looked.order, (order_coded f.byteorder w.allowed.byteorder).code_is, looked.compression)
 
-  dims_are : dims_of look ≡ ok (frame_dims f)
+  dims_are : dims_of look ≡ Ok (frame_dims f)
   unfolding dims_of
   dims_are =
       (λ i. dims_by (looked.dim_1 i) (looked.dim_2 i) (looked.dim_3 i) (looked.no_fourth i)) ∙ dims_by_lem (dims_shape w) w.allowed.dims
 
-  configuration_is : range_field 5 (configurations (length (frame_dims f))) 1 (look (ascii "DataRasterConfiguration")) ≡ ok f.configuration
+  configuration_is : range_field 5 (configurations (length (frame_dims f))) 1 (look (ascii "DataRasterConfiguration")) ≡ Ok f.configuration
   unfolding range_field
   configuration_is =
       let c = w.allowed.configuration in
@@ -108,15 +108,15 @@ module _ {f : Frame} {title pixels s : List ℕ} (w : Writes f title pixels s) w
         le-leb f.configuration (configurations (length (frame_dims f))) (rw e c.high),
       )
 
-  orientation_is : range_field 6 (configurations (length (frame_dims f))) 1 (look (ascii "RasterOrientation")) ≡ ok 1
+  orientation_is : range_field 6 (configurations (length (frame_dims f))) 1 (look (ascii "RasterOrientation")) ≡ Ok 1
   unfolding range_field
   orientation_is = rw looked.orientation
 
-  offset_is : whole_field 7 (pos 0) (look (ascii "DataValueOffset")) ≡ ok (pos 0)
+  offset_is : whole_field 7 (pos 0) (look (ascii "DataValueOffset")) ≡ Ok (pos 0)
   unfolding whole_field
   offset_is = rw looked.offset
 
-  described_is : described look written_origins (length (file_data f pixels)) ≡ ok (description_for f)
+  described_is : described look written_origins (length (file_data f pixels)) ≡ Ok (description_for f)
   unfolding described
   described_is =
       let e : length (frame_dims f) ≡ f.n = dims_length w.allowed in
@@ -129,7 +129,7 @@ module _ {f : Frame} {title pixels s : List ℕ} (w : Writes f title pixels s) w
         le-leb (product (frame_dims f) * (frame_type f).width) (length (file_data f pixels)) (enough_data f pixels),
         no_offset (frame_type f).class,
       )
-      (λ i. ok (record {
+      (λ i. Ok (record {
         datatype = f.datatype;
         byteorder = f.byteorder;
         compression = 1;
@@ -143,27 +143,27 @@ module _ {f : Frame} {title pixels s : List ℕ} (w : Writes f title pixels s) w
         origins = written_origins;
       }))
 
-  pub description_in_lem : description_in (view_with (row_of f title pixels) (keywords_of f title pixels)) ≡ ok (description_for f)
+  pub description_in_lem : description_in (view_with (row_of f title pixels) (keywords_of f title pixels)) ≡ Ok (description_for f)
   unfolding description_in
   description_in_lem = rw (written_origins_lem w) described_is
 
   module _ (fits : Fits f) where
-    pub description_is : description_of s 0 ≡ ok (description_for f)
+    pub description_is : description_of s 0 ≡ Ok (description_for f)
     unfolding description_of
     description_is = rw (written_view w fits) description_in_lem
 
     -- ---- The title
 
-    title_entry : (o : Option Entry) → Option.map (λ (e : Entry). e.value) o ≡ some (escaped_body title)
-        → (present o 16 0 >>= (λ (e : Entry). short_text (text_of e.value))) ≡ ok title
+    title_entry : (o : Option Entry) → option_map (λ (e : Entry). e.value) o ≡ Some (escaped_body title)
+        → (present o 16 0 >>= (λ (e : Entry). short_text (text_of e.value))) ≡ Ok title
     unfolding short_text quoted_text
-    title_entry none e = absurd (none_some e)
-    title_entry (some x) e =
+    title_entry None e = absurd (none_some e)
+    title_entry (Some x) e =
         let value : x.value ≡ escaped_body title = cc in
         let text : text_of x.value ≡ title = ap text_of (value ∙ sym (quotes-back (escaped_body title))) ∙ text_back title in
         rw (text, le-leb (length title) text_limit w.short)
 
-    pub title_is : text_in s 0 (ascii "Title") ≡ ok title
+    pub title_is : text_in s 0 (ascii "Title") ≡ Ok title
     unfolding text_in entry_of
     title_is =
         rw (written_view w fits) (title_entry (lookup_in (view_with (row_of f title pixels) (keywords_of f title pixels)) (ascii "Title")) looked.title)

@@ -1,5 +1,6 @@
 -- The theorems about the writer, stated: a rendered header parses back, and what is written opens, describes, reads and delivers as
 -- what it was written from. The proofs are in the files beside this one.
+use Rattle.std.specs.Prelude.{Ok}
 use mathlib.Core.Path.{◌≡◌}
 use mathlib.Core.List.{List, [], ◌∷◌, ◌++◌}
 use Prim.Native.Nat.{ℕ, ◌+◌}
@@ -8,7 +9,6 @@ use borrow.Author.Tests.{lt-ltb}
 use lib.ListN.{length, get_or}
 use lib.Seq.{drop_at, take-length}
 use Rattle.scan.specs.Byte.{ascii}
-use Rattle.scan.specs.Outcome.{ok}
 use Rattle.blocks.specs.Grammar.{Partition}
 use Rattle.blocks.specs.Opening.{opened}
 use Rattle.blocks.proofs.Complete.{opened_complete}
@@ -46,38 +46,38 @@ data_is {f} {title} {pixels} w =
     rw (w.is, drop_at (rendered_header (keywords_of f title pixels)) (file_data f pixels) _ start) (take-length (file_data f pixels))
 
 array_is : {f : Frame} {title pixels s : List ℕ} → Writes f title pixels s → Fits f
-    → array_of s 0 ≡ ok (record { description = description_for f; bytes = file_data f pixels })
+    → array_of s 0 ≡ Ok (record { description = description_for f; bytes = file_data f pixels })
 unfolding array_of
 array_is w fits = rw (written_view w fits, description_in_lem w, data_is w)
 
 -- For every frame, title and pixels that are written: all types, one to three dimensions, every configuration.
-module _ (f : Frame) (title pixels : List ℕ) {s : List ℕ} (fits : Fits f) (e : written_file f title pixels ≡ ok s) where
+module _ (f : Frame) (title pixels : List ℕ) {s : List ℕ} (fits : Fits f) (e : written_file f title pixels ≡ Ok s) where
   -- It has a partition of one block: the frame's identity, and the length of the data with its filling,
   pub one_block : Partition s (row_of f title pixels ∷ [])
   one_block = partition (written_says f title pixels e) fits
 
   -- so it opens with that one row.
-  pub opens : opened s ≡ ok (row_of f title pixels ∷ [])
+  pub opens : opened s ≡ Ok (row_of f title pixels ∷ [])
   opens = opened_complete s one_block
 
   -- It describes as the frame,
-  pub describes : description_of s 0 ≡ ok (description_for f)
+  pub describes : description_of s 0 ≡ Ok (description_for f)
   describes = description_is (written_says f title pixels e) fits
 
   -- its title is the title,
-  pub reads : text_in s 0 (ascii "Title") ≡ ok title
+  pub reads : text_in s 0 (ascii "Title") ≡ Ok title
   reads = title_is (written_says f title pixels e) fits
 
   module _ (octets : Octets pixels) where
     -- it delivers the pixels,
-    pub delivers : array_in s 0 1 ≡ ok pixels
+    pub delivers : array_in s 0 1 ≡ Ok pixels
     unfolding array_in is_order
     delivers = let w = written_says f title pixels e in rw (array_is w fits, delivered_is w octets)
 
     -- and each by its index is the value of its bytes.
     pub samples : (i1 i2 i3 : ℕ) → Inside (frame_dims f) i1 i2 i3
         → pixel_in s 0 i1 i2 i3
-        ≡ ok (pixel_of (frame_type f).class (frame_type f).width (number_of 1 (pixel f pixels (position_in (frame_dims f) i1 i2 i3))))
+        ≡ Ok (pixel_of (frame_type f).class (frame_type f).width (number_of 1 (pixel f pixels (position_in (frame_dims f) i1 i2 i3))))
     unfolding pixel_in is_index
     samples i1 i2 i3 h =
         let w = written_says f title pixels e in

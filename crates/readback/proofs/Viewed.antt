@@ -1,12 +1,10 @@
 -- A written file's block as its keywords are looked up, and the values of the fields that are looked up in it.
+use Rattle.std.specs.Prelude.{Option, None, Some, option_map, Ok, slice_get}
 use mathlib.Core.Path.{◌≡◌, refl, ap, ◌∙◌}
 use mathlib.Core.List.{List, [], ◌∷◌, ◌++◌}
-use mathlib.Core.Option.{Option, none, some, map}
 use Prim.Native.Nat.{ℕ}
 use lib.IntN.{pos}
-use lib.ListN.{get_elem?}
 use Rattle.scan.specs.Byte.{ascii, same}
-use Rattle.scan.specs.Outcome.{ok}
 use Rattle.text.specs.Decimal.{digits_of, decimal}
 use Rattle.text.specs.Fold.{fold}
 use Rattle.text.specs.Key.{strip, key_of}
@@ -44,20 +42,20 @@ view_with row ks = record { row = row; own = entries_for ks; general = [] }
 
 -- The text of a Dim, if it is there.
 abbrev pub dim_text : List ℕ → ℕ → Option (List ℕ)
-dim_text ds k = map (λ (d : ℕ). decimal (pos d)) (get_elem? ds k)
+dim_text ds k = option_map (λ (d : ℕ). decimal (pos d)) (slice_get ds k)
 
 pub record Looks (look : array.Values) (v : Values) (ds t : List ℕ) : Type 0 where
-  pub type : look (ascii "DataType") ≡ some v.type
-  pub order : look (ascii "ByteOrder") ≡ some v.order
-  pub compression : look (ascii "Compression") ≡ none
+  pub type : look (ascii "DataType") ≡ Some v.type
+  pub order : look (ascii "ByteOrder") ≡ Some v.order
+  pub compression : look (ascii "Compression") ≡ None
   pub dim_1 : look (ascii "Dim_1") ≡ dim_text ds 0
   pub dim_2 : look (ascii "Dim_2") ≡ dim_text ds 1
   pub dim_3 : look (ascii "Dim_3") ≡ dim_text ds 2
-  pub no_fourth : look (ascii "Dim_4") ≡ none
-  pub configuration : look (ascii "DataRasterConfiguration") ≡ some v.configuration
-  pub orientation : look (ascii "RasterOrientation") ≡ none
-  pub offset : look (ascii "DataValueOffset") ≡ none
-  pub title : look (ascii "Title") ≡ some (escaped_body t)
+  pub no_fourth : look (ascii "Dim_4") ≡ None
+  pub configuration : look (ascii "DataRasterConfiguration") ≡ Some v.configuration
+  pub orientation : look (ascii "RasterOrientation") ≡ None
+  pub offset : look (ascii "DataValueOffset") ≡ None
+  pub title : look (ascii "Title") ≡ Some (escaped_body t)
 
 -- The keywords of the Dims, with their keys written out.
 abbrev pub dim_named : {ds : List ℕ} → Dims ds → List Keyword
@@ -82,52 +80,52 @@ pub looks : (row : Row) (v : Values) (t : List ℕ) {ds : List ℕ} → Dims ds 
 unfolding lookup_in lookup is_edf_key same key_of strip fold whitespace entries_at quoted_text
 looks row v t (one a) w =
     rw (dim_keywords_lem (one a)) (record {
-      type = ap some (word_read v.type w.type.is_word);
-      order = ap some (word_read v.order w.order.is_word);
+      type = ap Some (word_read v.type w.type.is_word);
+      order = ap Some (word_read v.order w.order.is_word);
       compression = refl;
-      dim_1 = ap some (dim_read_lem a);
+      dim_1 = ap Some (dim_read_lem a);
       dim_2 = refl;
       dim_3 = refl;
       no_fourth = refl;
-      configuration = ap some (word_read v.configuration w.configuration.is_word);
+      configuration = ap Some (word_read v.configuration w.configuration.is_word);
       orientation = refl;
       offset = refl;
-      title = ap some (quoted_value (escaped_body t));
+      title = ap Some (quoted_value (escaped_body t));
     })
 looks row v t (two a b) w =
     rw (dim_keywords_lem (two a b)) (record {
-      type = ap some (word_read v.type w.type.is_word);
-      order = ap some (word_read v.order w.order.is_word);
+      type = ap Some (word_read v.type w.type.is_word);
+      order = ap Some (word_read v.order w.order.is_word);
       compression = refl;
-      dim_1 = ap some (dim_read_lem a);
-      dim_2 = ap some (dim_read_lem b);
+      dim_1 = ap Some (dim_read_lem a);
+      dim_2 = ap Some (dim_read_lem b);
       dim_3 = refl;
       no_fourth = refl;
-      configuration = ap some (word_read v.configuration w.configuration.is_word);
+      configuration = ap Some (word_read v.configuration w.configuration.is_word);
       orientation = refl;
       offset = refl;
-      title = ap some (quoted_value (escaped_body t));
+      title = ap Some (quoted_value (escaped_body t));
     })
 looks row v t (three a b c) w =
     rw (dim_keywords_lem (three a b c)) (record {
-      type = ap some (word_read v.type w.type.is_word);
-      order = ap some (word_read v.order w.order.is_word);
+      type = ap Some (word_read v.type w.type.is_word);
+      order = ap Some (word_read v.order w.order.is_word);
       compression = refl;
-      dim_1 = ap some (dim_read_lem a);
-      dim_2 = ap some (dim_read_lem b);
-      dim_3 = ap some (dim_read_lem c);
+      dim_1 = ap Some (dim_read_lem a);
+      dim_2 = ap Some (dim_read_lem b);
+      dim_3 = ap Some (dim_read_lem c);
       no_fourth = refl;
-      configuration = ap some (word_read v.configuration w.configuration.is_word);
+      configuration = ap Some (word_read v.configuration w.configuration.is_word);
       orientation = refl;
       offset = refl;
-      title = ap some (quoted_value (escaped_body t));
+      title = ap Some (quoted_value (escaped_body t));
     })
 
 -- ---- The view
 
 -- Of a rendered header and data that open as one data block.
 rendered_view : (ks : List Keyword) (l : List ℕ) → MayRender ks → (row : Row) → row.start ≡ 0 → row.kind ≡ 1
-    → opened_file (rendered_header ks ++ l) ≡ ok (row ∷ []) → view_of (rendered_header ks ++ l) 0 ≡ ok (view_with row ks)
+    → opened_file (rendered_header ks ++ l) ≡ Ok (row ∷ []) → view_of (rendered_header ks ++ l) 0 ≡ Ok (view_with row ks)
 unfolding view_of keyword.entries_at general_entries
 rendered_view ks l h row at kind e =
     let stands = rendered_stands ks l h in
@@ -141,10 +139,10 @@ rendered_view ks l h row at kind e =
     )
 
 module _ {f : Frame} {title pixels s : List ℕ} (w : Writes f title pixels s) where
-  pub written_view : Fits f → view_of s 0 ≡ ok (view_with (row_of f title pixels) (keywords_of f title pixels))
+  pub written_view : Fits f → view_of s 0 ≡ Ok (view_with (row_of f title pixels) (keywords_of f title pixels))
   unfolding file_of
   written_view fits =
-      let opens : opened_file s ≡ ok (row_of f title pixels ∷ []) =
+      let opens : opened_file s ≡ Ok (row_of f title pixels ∷ []) =
       within_limit s (rw w.is w.small) ∙ opened_complete s (partition w fits) in
       rw w.is (rendered_view (keywords_of f title pixels) (file_data f pixels) (written_renders w) (row_of f title pixels) refl refl (rw w.is at opens))
 

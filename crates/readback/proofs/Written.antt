@@ -1,10 +1,10 @@
 -- The file that the writer makes has a partition of one block, with the frame's identity and the data's length.
+use Rattle.std.specs.Prelude.{None, Some}
 use mathlib.Core.Path.{◌≡◌, refl, sym, ap}
 use mathlib.Core.Bool.{true}
 use mathlib.Core.Logic.{inl}
 use mathlib.Core.List.Memᴰ
 use mathlib.Core.List.{List, [], ◌∷◌, ◌++◌}
-use mathlib.Core.Option.{none, some}
 use Prim.Native.Nat.{ℕ, ◌-◌, ◌≤◌}
 use native.Mathlib.Omega.{arith}
 use lib.IntN.{ℤ, pos}
@@ -60,15 +60,15 @@ module _ (v : Values) (ds t : List ℕ) where
     unfolding entries_at key_of strip fold whitespace
     first_key = record { entry = first said; at = here; key_is = refl; value_is = word_read v.identity w.identity.is_word }
 
-    size_value_lem : size_value 2 said ≡ some v.size
+    size_value_lem : size_value 2 said ≡ Some v.size
     unfolding entries_at size_value counting is_edf_key lookup same key_of strip fold whitespace
-    size_value_lem = ap some (word_read v.size w.size.is_word)
+    size_value_lem = ap Some (word_read v.size w.size.is_word)
 
-  no_file_name : value_in FileNameKey (counting_in 2 said) ≡ none
+  no_file_name : value_in FileNameKey (counting_in 2 said) ≡ None
   unfolding entries_at counting_in counting is_edf_key lookup same key_of strip fold whitespace
   no_file_name = refl
 
-  no_header_size : value_in HeaderSizeKey (counting_in 2 said) ≡ none
+  no_header_size : value_in HeaderSizeKey (counting_in 2 said) ≡ None
   unfolding entries_at counting_in counting is_edf_key lookup same key_of strip fold whitespace
   no_header_size = refl
 
@@ -80,7 +80,7 @@ row_with header size a b c =
     record { start = 0; header = header; size = size; kind = 1; sequence = a; instance = b; memory = c }
 
 module _ (v : Values) (t l : List ℕ) {ds : List ℕ} (d : Dims ds) (w : AreWords v) (text : Each (λ b. text_byte b ≡ true) t) (short : length t ≤ text_limit)
-    {a c : ℤ} {b : ℕ} (identity : IsIdentity v.identity a b c) (size : whole_number v.size ≡ some (pos (length l))) where
+    {a c : ℤ} {b : ℕ} (identity : IsIdentity v.identity a b c) (size : whole_number v.size ≡ Some (pos (length l))) where
   abbrev header : List ℕ
   header = rendered_header (keywords_with v ds t)
 

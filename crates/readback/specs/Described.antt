@@ -1,13 +1,13 @@
 -- The description that a written file gives: "What the writer makes reads back as the same description".
 use Rattle.std.specs.Prelude.{pos, get_or}
 use Rattle.keyword.specs.declared.Origin.TheVariants as origin
-use Rattle.origins.specs.declared.Origins.{Origins}
+use Rattle.origins.specs.Origins.{FieldOrigins}
 use Rattle.description.specs.declared.Description.{Description}
 use Rattle.frame.specs.File.{frame_dims}
 use Rattle.frame.specs.declared.Frame.{Frame}
 
 -- "a file of our writer has own for all but Compression, RasterOrientation and DataValueOffset" (02, No. 1)
-abbrev pub written_origins : Origins
+abbrev pub written_origins : FieldOrigins
 written_origins =
     record {
       datatype = origin.Own;

@@ -1,8 +1,8 @@
 -- Statements whose keys count are the entries that count; a key looked up among them; and the turns of a loop over them.
+use Rattle.std.specs.Prelude.{Option, None, Some, option_map, Ok, Err}
 use mathlib.Core.Path.{◌≡◌, refl, sym, ap}
 use mathlib.Core.Bool.{true, false}
 use mathlib.Core.List.{List, [], ◌∷◌}
-use mathlib.Core.Option.{Option, none, some, map}
 use Prim.Native.Nat.{ℕ, ◌+◌, ◌<◌}
 use native.Mathlib.Numerals.{add-one}
 use lib.ListN.{length}
@@ -12,8 +12,7 @@ use Rattle.header.specs.Entries.{entries, lookup}
 use Rattle.header.specs.Entry.{Entry, key}
 use Rattle.header.specs.Grammar.{IsStatement}
 use Rattle.header.specs.Lookup.{first_statement, entry_of}
-use Rattle.header.specs.Statements.{statement_at, leading_statements}
-use Rattle.header.specs.declared.Next.TheVariants.{One, End, Malformed}
+use Rattle.header.specs.Statements.{statement_at, leading_statements, malformed}
 use Rattle.header.specs.declared.Statement.{Statement}
 use Rattle.header.proofs.Leading.{statement-stands, leading-one, leading_end, leading-malformed}
 use Rattle.header.proofs.LookupLaws.{lookup_first, first_stands}
@@ -31,12 +30,12 @@ counting-entries s (t ∷ ts) =
 
 module _ (s k : List ℕ) where
   pub lookup-counting : (ts : List Statement)
-      → lookup k (counting (entries s ts)) ≡ map (entry_of s) (first_statement s k (counting_statements s ts))
+      → lookup k (counting (entries s ts)) ≡ option_map (entry_of s) (first_statement s k (counting_statements s ts))
   lookup-counting ts = rw (counting-entries s ts) (lookup_first s k (counting_statements s ts))
 
   -- What is found among those that count is found among all,
-  pub counting_first : {t : Statement} (ts : List Statement) → first_statement s k (counting_statements s ts) ≡ some t
-      → first_statement s k ts ≡ some t
+  pub counting_first : {t : Statement} (ts : List Statement) → first_statement s k (counting_statements s ts) ≡ Some t
+      → first_statement s k ts ≡ Some t
   unfolding first_statement counting_statements
   counting_first [] e = e
   counting_first (u ∷ ts) e =
@@ -47,7 +46,7 @@ module _ (s k : List ℕ) where
       (λ q. absurd (none_some (rw q at e)))
 
   -- and is a statement.
-  pub counting_stands : (t : Statement) (at : ℕ) → first_statement s k (counting_statements s (leading_statements s at)) ≡ some t
+  pub counting_stands : (t : Statement) (at : ℕ) → first_statement s k (counting_statements s (leading_statements s at)) ≡ Some t
       → IsStatement s t × (t.end < length s)
   counting_stands t at e = first_stands s k t at (counting_first (leading_statements s at) e)
 
@@ -58,20 +57,20 @@ module _ (s k : List ℕ) (at : ℕ) where
   abbrev pub counting_from : Option Statement
   counting_from = first_statement s k (counting_statements s (leading_statements s at))
 
-  pub counting_end : statement_at s at ≡ End → counting_from ≡ none
+  pub counting_end : statement_at s at ≡ Ok None → counting_from ≡ None
   unfolding first_statement counting_statements
   counting_end e = rw (leading_end s at e)
 
-  pub counting_malformed : statement_at s at ≡ Malformed → counting_from ≡ none
+  pub counting_malformed : statement_at s at ≡ Err malformed → counting_from ≡ None
   unfolding first_statement counting_statements
   counting_malformed e = rw (leading-malformed s at e)
 
-  module _ (t : Statement) (e : statement_at s at ≡ One t) (j : List ℕ) (is_key : j ≡ key s t) where
-    pub counting_stops : is_edf_key j ≡ false → counting_from ≡ none
+  module _ (t : Statement) (e : statement_at s at ≡ Ok (Some t)) (j : List ℕ) (is_key : j ≡ key s t) where
+    pub counting_stops : is_edf_key j ≡ false → counting_from ≡ None
     unfolding first_statement counting_statements
     counting_stops q = rw (leading-one s (statement-stands s at t e), sym is_key, q)
 
-    pub counting_hit : is_edf_key j ≡ true → same j k ≡ true → counting_from ≡ some t
+    pub counting_hit : is_edf_key j ≡ true → same j k ≡ true → counting_from ≡ Some t
     unfolding first_statement counting_statements
     counting_hit q p = rw (leading-one s (statement-stands s at t e), sym is_key, q, sym is_key, p)
 

@@ -1,4 +1,5 @@
 -- Whether a key starts with `edf_`, one visible byte after another.
+use Rattle.std.specs.Prelude.{Some, None}
 use mathlib.Core.Path.{◌≡◌, refl}
 use mathlib.Core.Bool.{Bool, true, false}
 use mathlib.Core.List.{List}
@@ -10,7 +11,6 @@ use lib.ListN.{take, drop, drop_of_length-le}
 use lib.Seq.{drop-cons}
 use Rattle.scan.specs.Byte.{byte, ascii, same}
 use Rattle.scan.specs.Search.{first_from}
-use Rattle.scan.specs.declared.Found.TheVariants.{At, Nothing}
 use Rattle.text.specs.Fold.{fold}
 use Rattle.text.specs.Key.{key_of}
 use Rattle.text.specs.Whitespace.{visible}
@@ -38,16 +38,16 @@ module _ (k : List ℕ) where
       more : 4 - n ≡ suc (3 - n)
       more = omega arith
 
-      pub edf_none : first_from visible k i ≡ Nothing → edf_from k i n ≡ false
+      pub edf_none : first_from visible k i ≡ None → edf_from k i n ≡ false
       unfolding edf_from same
       edf_none e = rw (more, key_none k i e, drop-cons edf n 0 h)
 
-      pub edf_other : {x : ℕ} → first_from visible k i ≡ At x → (fold (byte k x) ≡ byte edf n → ⊥) → edf_from k i n ≡ false
+      pub edf_other : {x : ℕ} → first_from visible k i ≡ Some x → (fold (byte k x) ≡ byte edf n → ⊥) → edf_from k i n ≡ false
       unfolding edf_from same
       edf_other {x} e d =
           rw (more, key_next k i x e, drop-cons edf n 0 h, ne_eqb (fold (byte k x)) (byte edf n) d)
 
-      pub edf_next : {x : ℕ} → first_from visible k i ≡ At x → fold (byte k x) ≡ byte edf n
+      pub edf_next : {x : ℕ} → first_from visible k i ≡ Some x → fold (byte k x) ≡ byte edf n
           → edf_from k i n ≡ edf_from k (x + 1) (n + 1)
       unfolding edf_from same
       edf_next {x} e d =

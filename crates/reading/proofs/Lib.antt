@@ -2,7 +2,6 @@ pub mod CountingLaws
 pub mod EdfKeys
 pub mod EntryLaws
 pub mod IdentitySteps
-pub mod NumberSteps
 pub mod SizeLaws
 pub mod SoughtLaws
 pub mod VersionSteps

@@ -1,13 +1,12 @@
 -- What a search among the statements of a header says of its entries.
+use Rattle.std.specs.Prelude.{Option, None, Some}
 use mathlib.Core.Path.{◌≡◌, refl, sym, ap, ◌∙◌}
 use mathlib.Core.Logic.{◌≢◌}
 use mathlib.Core.List.{List, []}
-use mathlib.Core.Option.{Option, none, some}
 use Prim.Native.Nat.{ℕ}
 use borrow.Author.Tests.{eq-eqb, ne_eqb}
 use Rattle.text.specs.Fold.{fold, fold_table}
 use Rattle.text.specs.Key.{strip, key_of}
-use Rattle.text.specs.Number.{whole_number}
 use Rattle.text.specs.Whitespace.{whitespace}
 use Rattle.header.specs.Entries.{value, lookup, value_in}
 use Rattle.header.specs.Entry.{Entry}
@@ -17,7 +16,7 @@ use Rattle.header.specs.declared.Statement.{Statement}
 use Rattle.blocks.specs.Counting.{counting, counting_in, size_value}
 use Rattle.blocks.specs.Keys.{SizeKey, VersionKey, DataBlocksKey, BlockIDKey, BoundaryKey, HeaderSizeKey, BinarySizeKey, FileNameKey}
 use Rattle.blocks.specs.Limits.{default_boundary}
-use Rattle.blocks.specs.Reading.{at_least, number_or}
+use Rattle.blocks.specs.Reading.{number_or}
 use Rattle.reading.specs.Counting.{counting_statements}
 use Rattle.reading.specs.Entries.{entries_from}
 use Rattle.reading.proofs.CountingLaws.{counting-entries}
@@ -42,33 +41,20 @@ folded =
 -- ---- What a search says of the entries
 
 module _ (s : List ℕ) (from : ℕ) (k : List ℕ) where
-  pub any_none : none ≡ first_statement s k (leading_statements s from) → value_in k (entries_from s from) ≡ none
+  pub any_none : None ≡ first_statement s k (leading_statements s from) → value_in k (entries_from s from) ≡ None
   any_none e = value_found_lem s k (leading_statements s from) ∙ rw (sym e)
 
-  pub any_some : {t : Statement} → some t ≡ first_statement s k (leading_statements s from) → value_in k (entries_from s from) ≡ some (value s t)
+  pub any_some : {t : Statement} → Some t ≡ first_statement s k (leading_statements s from) → value_in k (entries_from s from) ≡ Some (value s t)
   any_some e = value_found_lem s k (leading_statements s from) ∙ rw (sym e)
 
-  pub counting_none : none ≡ first_statement s k (counting_statements s (leading_statements s from)) → value_in k (counting (entries_from s from)) ≡ none
+  pub counting_none : None ≡ first_statement s k (counting_statements s (leading_statements s from)) → value_in k (counting (entries_from s from)) ≡ None
   counting_none e =
       rw (counting-entries s (leading_statements s from)) (value_found_lem s k (counting_statements s (leading_statements s from)) ∙ rw (sym e))
 
-  pub counting_some : {t : Statement} → some t ≡ first_statement s k (counting_statements s (leading_statements s from))
-      → value_in k (counting (entries_from s from)) ≡ some (value s t)
+  pub counting_some : {t : Statement} → Some t ≡ first_statement s k (counting_statements s (leading_statements s from))
+      → value_in k (counting (entries_from s from)) ≡ Some (value s t)
   counting_some e =
       rw (counting-entries s (leading_statements s from)) (value_found_lem s k (counting_statements s (leading_statements s from)) ∙ rw (sym e))
-
--- ---- Values that may be absent
-
-module _ {o : Option (List ℕ)} where
-  module _ (e : o ≡ none) where
-    pub number_none : (default least : ℕ) → some default ≡ number_or default least o
-    unfolding number_or
-    number_none default least = rw e
-
-  module _ {w : List ℕ} (e : o ≡ some w) (v : List ℕ) (same : v ≡ w) where
-    pub number_some : (default least : ℕ) {r : Option ℕ} → r ≡ at_least least (whole_number v) → r ≡ number_or default least o
-    unfolding number_or
-    number_some default least q = rw e (q ∙ ap (λ (l : List ℕ). at_least least (whole_number l)) same)
 
 -- ---- By the kind of the file
 
@@ -99,7 +85,7 @@ module _ (kind : ℕ) (es : List Entry) {x : Option ℕ} where
 
 -- A value among those that count.
 module _ (kind : ℕ) (es : List Entry) (k : List ℕ) where
-  pub absent_one : kind ≡ 1 → value_in k (counting_in kind es) ≡ none
+  pub absent_one : kind ≡ 1 → value_in k (counting_in kind es) ≡ None
   unfolding lookup
   absent_one e = rw (counts_one kind es e)
 

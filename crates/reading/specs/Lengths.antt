@@ -1,6 +1,5 @@
 -- What EDF_HeaderSize says of a header's length, where it counts.
-use Rattle.std.specs.Prelude.{◌≡◌, Bool, true, false, List, ℕ}
-use Rattle.std.proofs.Math.Option.{Option}
+use Rattle.std.specs.Prelude.{◌≡◌, Bool, true, false, List, ℕ, Option}
 use Rattle.blocks.specs.Judging.{is_whole_or_absent, is_length_or_absent}
 use Rattle.reading.specs.declared.values.HeaderSize.{HeaderSize}
 use Rattle.reading.specs.declared.values.HeaderSize.TheVariants.{Kept, Other, Invalid}

@@ -1,4 +1,4 @@
-pub mod Answers
 pub mod Counting
 pub mod Entries
+pub mod FirstEntry
 pub mod Lengths

@@ -6,6 +6,7 @@ ghost use Rattle.text.specs.Text.{every};
 ghost use Rattle.blocks.specs.Reading.{is_version};
 
 // Whether a byte is a digit.
+#[tactic(auto, unfolding(text::specs::Number::digit))]
 fn is_digit(b: u8) -> bool
     ensures { result ≡ digit b }
 {
@@ -15,48 +16,24 @@ fn is_digit(b: u8) -> bool
 fn all_digits(l: &[u8]) -> bool
     ensures { result ≡ every digit l.now }
 {
-    let mut i = 0;
-    while i < l.len() {
-        if !is_digit(l[i]) {
-            return false;
-        }
-        i += 1;
-    }
-    true
+    l.iter().all(|&b| is_digit(b))
 }
 
 fn all_zeros(l: &[u8]) -> bool
     ensures { result ≡ every (is 48) l.now }
 {
-    let mut i = 0;
-    while i < l.len() {
-        if l[i] != 48 {
-            return false;
-        }
-        i += 1;
-    }
-    true
+    l.iter().all(|&b| b == b'0')
 }
 
 // Whether a value is digits, not all 0, a point and two digits.
+#[tactic(auto, unfolding(blocks::specs::Reading::is_version))]
 pub fn is_version(v: &[u8]) -> bool
     ensures { result ≡ is_version v.now }
 {
-    if v.len() < 3 {
-        return false;
+    match v {
+        [number @ .., b'.', tens, units] => {
+            all_digits(number) && !all_zeros(number) && is_digit(*tens) && is_digit(*units)
+        }
+        _ => false,
     }
-    let n = v.len() - 3;
-    if !all_digits(&v[..n]) {
-        return false;
-    }
-    if all_zeros(&v[..n]) {
-        return false;
-    }
-    if v[n] != b'.' {
-        return false;
-    }
-    if !is_digit(v[n + 1]) {
-        return false;
-    }
-    is_digit(v[n + 2])
 }

@@ -5,13 +5,13 @@
 // `stdout` is worked out apart, with exact fractions.
 ghost use Rattle.std.specs.Prelude.{◌≤◌, IfOk, length};
 
-use keyword::Located;
-use reals::{Measured, Real};
+use reals::Real;
 use scan::Error;
 use std::io;
 use std::io::{Input, Read};
 
-// Reads standard input to its end or until the buffer is full: how many bytes it put at the front of the buffer.
+// Reads standard input to its end or until the buffer is full: how many bytes it put at the front of the buffer. Each program that
+// reads has these lines: a crate of their own would be longer.
 fn read_full(rt: &impl Input, buffer: &mut [u8]) -> io::Result<usize>
     ensures { IfOk result (λ n. n ≤ length buffer.new) }
 {
@@ -21,44 +21,38 @@ fn read_full(rt: &impl Input, buffer: &mut [u8]) -> io::Result<usize>
     Ok(room.saturating_sub(rest.len()))
 }
 
-fn show(rt: &impl Print, w: &[u8]) -> io::Result<()> {
-    rt.write_all(w)
-}
-
 fn bits(x: f64) -> u64 {
     if x == x { f64::to_bits(x) } else { 0 }
 }
 
-fn float(rt: &impl Print, unit: &[u8], x: f64) -> io::Result<()> {
-    show(rt, unit)?;
+fn float(rt: &impl Print, unit: &str, x: f64) -> io::Result<()> {
     let n = bits(x);
-    println!(rt; "{n:016x}")
+    println!(rt; "{unit}{n:016x}")
 }
 
 fn real(rt: &impl Print, r: Real) -> io::Result<()> {
     match r {
-        Real::Number(x) => float(rt, b" ", x),
-        Real::Metres(x) => float(rt, b" m ", x),
-        Real::Degrees(x) => float(rt, b" deg ", x),
-        Real::Radians(x) => float(rt, b" rad ", x),
+        Real::Number(x) => float(rt, " ", x),
+        Real::Metres(x) => float(rt, " m ", x),
+        Real::Degrees(x) => float(rt, " deg ", x),
+        Real::Radians(x) => float(rt, " rad ", x),
     }
 }
 
 fn failure(rt: &impl Print, e: Error) -> io::Result<()> {
-    let code = e.code;
-    let position = e.position;
+    let Error { code, position } = e;
     println!(rt; " refused {code} {position}")
 }
 
 // The value of a keyword, if there is one.
 fn value(rt: &impl Print, file: &[u8], key: &[u8]) -> io::Result<()> {
     match edf::find(file, 0, key) {
-        Located::At(p) => {
-            show(rt, b"[")?;
-            show(rt, edf::part(file, p))?;
-            show(rt, b"]")
+        Ok(p) => {
+            print!(rt; "[")?;
+            rt.write_all(edf::part(file, p))?;
+            print!(rt; "]")
         }
-        Located::Failed(_) => show(rt, b"none"),
+        Err(_) => print!(rt; "none"),
     }
 }
 
@@ -66,13 +60,13 @@ fn example(rt: &impl Print, file: &[u8], key: u8) -> io::Result<()> {
     let name = [key];
     value(rt, file, &name)?;
     match edf::real(file, 0, &name) {
-        Measured::Value(r) => real(rt, r),
-        Measured::Failed(e) => failure(rt, e),
+        Ok(r) => real(rt, r),
+        Err(e) => failure(rt, e),
     }
 }
 
 fn examples(rt: &impl Print, file: &[u8]) -> io::Result<()> {
-    for key in 97..119 {
+    for key in b'a'..b'w' {
         example(rt, file, key)?;
     }
     Ok(())

@@ -1,8 +1,8 @@
 -- A text of the form is read: `numeral_of` gives what its pieces say.
+use Rattle.std.specs.Prelude.{Option, None, Some}
 use mathlib.Core.Path.{◌≡◌, refl, sym, ◌∙◌}
 use mathlib.Core.Bool.{Bool}
 use mathlib.Core.List.{List, [], ◌++◌, append_assoc, append-nil}
-use mathlib.Core.Option.{Option, none, some}
 use Prim.Native.Nat.{ℕ}
 use native.Mathlib.Omega.{arith}
 use lib.IntN.{ℤ, pos, ◌-ℤ◌}
@@ -40,21 +40,21 @@ exponent_free (given {l} h) =
 
 module _ (m : Measure) (negative : Bool) (z : ℤ) where
   natural_gives : (whole fraction : List ℕ) {n : ℕ} → Digits (whole ++ fraction) n
-      → with_digits m negative z whole fraction ≡ some (numeral m negative (z -ℤ pos (length fraction)) n)
+      → with_digits m negative z whole fraction ≡ Some (numeral m negative (z -ℤ pos (length fraction)) n)
   unfolding with_digits
   natural_gives whole fraction h = rw (natural_complete h)
 
   decimal_gives : {d : List ℕ} {n places : ℕ} → IsDecimal d n places
-      → without_sign m negative z d ≡ some (numeral m negative (z -ℤ pos places) n)
+      → without_sign m negative z d ≡ Some (numeral m negative (z -ℤ pos places) n)
   unfolding without_sign
   decimal_gives (plain {l} {n} h) =
       let free = digits_free 46 (λ d l e. omega arith) h in
-      let b = rw (append-nil l) at (split-before 46 l free none) in
-      let a = rw (append-nil l) at (split_after 46 l free none) in
+      let b = rw (append-nil l) at (split-before 46 l free None) in
+      let a = rw (append-nil l) at (split_after 46 l free None) in
       rw (b, a) (natural_gives l [] (rw (append-nil l) h))
   decimal_gives (pointed whole fraction h) =
       let free = before_free 46 (λ d l e. omega arith) whole fraction h in
-      rw (split-before 46 whole free (some fraction), split_after 46 whole free (some fraction)) (natural_gives whole fraction h)
+      rw (split-before 46 whole free (Some fraction), split_after 46 whole free (Some fraction)) (natural_gives whole fraction h)
 
 module _ (m : Measure) (z : ℤ) where
   sign_gives : {s : List ℕ} {negative : Bool} → IsSign s negative → (d : List ℕ) → FreeOf 45 d → FreeOf 43 d
@@ -65,9 +65,9 @@ module _ (m : Measure) (z : ℤ) where
   sign_gives form.minus d f g = refl
 
 -- What follows `e`, or nothing.
-pub exponent_tail : {e : List ℕ} {z : ℤ} → IsExponent e z → (o : Option (List ℕ)) × (e ≡ from 101 o) × (exponent_of o ≡ some z)
-exponent_tail form.none = (none, refl, refl)
-exponent_tail (given {l} h) = (some l, refl, whole_complete h)
+pub exponent_tail : {e : List ℕ} {z : ℤ} → IsExponent e z → (o : Option (List ℕ)) × (e ≡ from 101 o) × (exponent_of o ≡ Some z)
+exponent_tail form.none = (None, refl, refl)
+exponent_tail (given {l} h) = (Some l, refl, whole_complete h)
 
 exponent_gives : (m : Measure) (front : List ℕ) {e : List ℕ} {z : ℤ} → FreeOf 101 front → IsExponent e z
     → with_exponent m (front ++ e) ≡ with_sign m z front
@@ -77,12 +77,12 @@ exponent_gives m front free h =
     rw (t.1, split-before 101 front free t.0, split_after 101 front free t.0, t.2)
 
 -- What follows the underscore, or nothing.
-pub measure_tail : {t : List ℕ} {m : Measure} → IsMeasure t m → (o : Option (List ℕ)) × (t ≡ from 95 o) × (measure_of o ≡ some m)
+pub measure_tail : {t : List ℕ} {m : Measure} → IsMeasure t m → (o : Option (List ℕ)) × (t ≡ from 95 o) × (measure_of o ≡ Some m)
 unfolding measure_named same
-measure_tail form.none = (none, refl, refl)
-measure_tail metres = (some (ascii "m"), refl, refl)
-measure_tail degrees = (some (ascii "deg"), refl, refl)
-measure_tail radians = (some (ascii "rad"), refl, refl)
+measure_tail form.none = (None, refl, refl)
+measure_tail metres = (Some (ascii "m"), refl, refl)
+measure_tail degrees = (Some (ascii "deg"), refl, refl)
+measure_tail radians = (Some (ascii "rad"), refl, refl)
 
 measure_gives : (front : List ℕ) {t : List ℕ} {m : Measure} → FreeOf 95 front → IsMeasure t m → numeral_of (front ++ t) ≡ with_exponent m front
 unfolding numeral_of
@@ -115,7 +115,7 @@ module _ {l : List ℕ} {p : Pieces} {x : Numeral} (h : Parse l p x) where
   pub cut : l ≡ ((p.sign ++ p.digits) ++ p.exponent) ++ p.measure
   cut = h.is ∙ simp append_assoc
 
-  pub complete : numeral_of l ≡ some x
+  pub complete : numeral_of l ≡ Some x
   complete =
       rw (
         cut,

@@ -1,8 +1,9 @@
 -- What is read has the form: `numeral_of` gives a numeral only of a text whose pieces say it.
+use Rattle.std.specs.Prelude.{Option, None, Some, option_map}
+use Rattle.std.proofs.lemmas.Option.{none-some, same_Some}
 use mathlib.Core.Path.{◌≡◌, refl, sym, ap, ◌∙◌, subst}
 use mathlib.Core.Bool.{Bool, true, false}
 use mathlib.Core.List.{List, [], ◌∷◌, ◌++◌, append_assoc}
-use mathlib.Core.Option.{Option, none, some, map, none-ne-some, some-injective}
 use Prim.Native.Nat.{ℕ}
 use borrow.Author.Tests.{eqb-true}
 use lib.Dec.{eqb}
@@ -25,13 +26,13 @@ use Rattle.reals.proofs.SplitLaws.{from, rejoined}
 
 -- ---- A value that is there was made of one that is there
 
-then_some : {A B : Type 0} (o : Option A) (go : A → Option B) {y : B} → and_then o go ≡ some y → (x : A) × (o ≡ some x) × (go x ≡ some y)
-then_some none go {y} e = absurd (none-ne-some y e)
-then_some (some x) go e = (x, refl, e)
+then_some : {A B : Type 0} (o : Option A) (go : A → Option B) {y : B} → and_then o go ≡ Some y → (x : A) × (o ≡ Some x) × (go x ≡ Some y)
+then_some None go {y} e = absurd (none-some y e)
+then_some (Some x) go e = (x, refl, e)
 
-map_some : {A B : Type 0} (f : A → B) (o : Option A) {y : B} → map f o ≡ some y → (x : A) × (o ≡ some x) × (f x ≡ y)
-map_some f none {y} e = absurd (none-ne-some y e)
-map_some f (some x) {y} e = (x, refl, some-injective (f x) y e)
+map_some : {A B : Type 0} (f : A → B) (o : Option A) {y : B} → option_map f o ≡ Some y → (x : A) × (o ≡ Some x) × (f x ≡ y)
+map_some f None {y} e = absurd (none-some y e)
+map_some f (Some x) {y} e = (x, refl, same_Some (f x) y e)
 
 -- ---- Each piece
 
@@ -43,17 +44,17 @@ pub record Decimal (m : Measure) (negative : Bool) (z : ℤ) (d : List ℕ) (x :
   pub says : numeral m negative (z -ℤ pos places) coefficient ≡ x
 
 module _ (m : Measure) (negative : Bool) (z : ℤ) {x : Numeral} where
-  digits_from_lem : (front : List ℕ) (o : Option (List ℕ)) → with_digits m negative z front (bytes_after o) ≡ some x
+  digits_from_lem : (front : List ℕ) (o : Option (List ℕ)) → with_digits m negative z front (bytes_after o) ≡ Some x
       → Decimal m negative z (front ++ from 46 o) x
   unfolding with_digits
-  digits_from_lem front none e =
+  digits_from_lem front None e =
       let r = map_some (numeral m negative (z -ℤ pos 0)) (natural (front ++ [])) e in
       record { coefficient = r.0; places = 0; is = plain (natural_sound (front ++ []) r.0 r.1); says = r.2 }
-  digits_from_lem front (some w) e =
+  digits_from_lem front (Some w) e =
       let r = map_some (numeral m negative (z -ℤ pos (length w))) (natural (front ++ w)) e in
       record { coefficient = r.0; places = length w; is = pointed front w (natural_sound (front ++ w) r.0 r.1); says = r.2 }
 
-  decimal_from : (l : List ℕ) → without_sign m negative z l ≡ some x → Decimal m negative z l x
+  decimal_from : (l : List ℕ) → without_sign m negative z l ≡ Some x → Decimal m negative z l x
   unfolding without_sign
   decimal_from l e =
       let f = first_from (is 46) l 0 in
@@ -68,7 +69,7 @@ record Signed (m : Measure) (z : ℤ) (l : List ℕ) (x : Numeral) : Type 0 wher
   sign_is : IsSign sign negative
   decimal : Decimal m negative z digits x
 
-sign_from : (m : Measure) (z : ℤ) {x : Numeral} (l : List ℕ) → with_sign m z l ≡ some x → Signed m z l x
+sign_from : (m : Measure) (z : ℤ) {x : Numeral} (l : List ℕ) → with_sign m z l ≡ Some x → Signed m z l x
 unfolding with_sign
 sign_from m z [] e =
     record { sign = []; negative = false; digits = []; is = refl; sign_is = form.none; decimal = decimal_from m false z [] e }
@@ -104,9 +105,9 @@ sign_from m z {x} (b ∷ l) e =
       decimal = decimal_from m false z (b ∷ l) (rw (f, g) at e);
     }))
 
-exponent_is : (o : Option (List ℕ)) {z : ℤ} → exponent_of o ≡ some z → IsExponent (from 101 o) z
-exponent_is none {z} e = subst (IsExponent []) (some-injective (pos 0) z e) form.none
-exponent_is (some w) e = given (whole_sound w e)
+exponent_is : (o : Option (List ℕ)) {z : ℤ} → exponent_of o ≡ Some z → IsExponent (from 101 o) z
+exponent_is None {z} e = subst (IsExponent []) (same_Some (pos 0) z e) form.none
+exponent_is (Some w) e = given (whole_sound w e)
 
 -- What stands before the unit: sign, digits and exponent.
 record Scaled (m : Measure) (l : List ℕ) (x : Numeral) : Type 0 where
@@ -117,7 +118,7 @@ record Scaled (m : Measure) (l : List ℕ) (x : Numeral) : Type 0 where
   exponent_at : IsExponent exponent z
   signed : Signed m z front x
 
-exponent_from : (m : Measure) {x : Numeral} (l : List ℕ) → with_exponent m l ≡ some x → Scaled m l x
+exponent_from : (m : Measure) {x : Numeral} (l : List ℕ) → with_exponent m l ≡ Some x → Scaled m l x
 unfolding with_exponent
 exponent_from m l e =
     let f = first_from (is 101) l 0 in
@@ -132,22 +133,22 @@ exponent_from m l e =
     }
 
 -- A word that is one of the units' names.
-named_is : (w : List ℕ) {m : Measure} → measure_named w ≡ some m → IsMeasure (95 ∷ w) m
+named_is : (w : List ℕ) {m : Measure} → measure_named w ≡ Some m → IsMeasure (95 ∷ w) m
 unfolding measure_named
 named_is w {m} e =
     by_test (same w (ascii "m"))
-    (λ t. subst (IsMeasure (95 ∷ w)) (some-injective _ m (rw t at e)) (rw (decided (same_decides w (ascii "m")) t) metres))
+    (λ t. subst (IsMeasure (95 ∷ w)) (same_Some _ m (rw t at e)) (rw (decided (same_decides w (ascii "m")) t) metres))
     (λ f.
     by_test (same w (ascii "deg"))
-    (λ t. subst (IsMeasure (95 ∷ w)) (some-injective _ m (rw (f, t) at e)) (rw (decided (same_decides w (ascii "deg")) t) degrees))
+    (λ t. subst (IsMeasure (95 ∷ w)) (same_Some _ m (rw (f, t) at e)) (rw (decided (same_decides w (ascii "deg")) t) degrees))
     (λ g.
     by_test (same w (ascii "rad"))
-    (λ t. subst (IsMeasure (95 ∷ w)) (some-injective _ m (rw (f, g, t) at e)) (rw (decided (same_decides w (ascii "rad")) t) radians))
-    (λ h. absurd (none-ne-some m (rw (f, g, h) at e)))))
+    (λ t. subst (IsMeasure (95 ∷ w)) (same_Some _ m (rw (f, g, t) at e)) (rw (decided (same_decides w (ascii "rad")) t) radians))
+    (λ h. absurd (none-some m (rw (f, g, h) at e)))))
 
-measure_is : (o : Option (List ℕ)) {m : Measure} → measure_of o ≡ some m → IsMeasure (from 95 o) m
-measure_is none {m} e = subst (IsMeasure []) (some-injective _ m e) form.none
-measure_is (some w) e = named_is w e
+measure_is : (o : Option (List ℕ)) {m : Measure} → measure_of o ≡ Some m → IsMeasure (from 95 o) m
+measure_is None {m} e = subst (IsMeasure []) (same_Some _ m e) form.none
+measure_is (Some w) e = named_is w e
 
 -- ---- The whole text
 
@@ -176,7 +177,7 @@ says c {t} u l e =
           }),
     )
 
-pub sound : (l : List ℕ) {x : Numeral} → numeral_of l ≡ some x → IsNumeral l x
+pub sound : (l : List ℕ) {x : Numeral} → numeral_of l ≡ Some x → IsNumeral l x
 unfolding numeral_of
 sound l e =
     let f = first_from (is 95) l 0 in

@@ -2,7 +2,6 @@ pub mod CutLaws
 pub mod FormComplete
 pub mod FormSound
 pub mod FreeLaws
-pub mod JudgedLaws
 pub mod Main
 pub mod MeasureLaws
 pub mod OneParse

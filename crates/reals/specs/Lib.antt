@@ -1,4 +1,3 @@
-pub mod Answers
 pub mod Cut
 pub mod Form
 pub mod Measure

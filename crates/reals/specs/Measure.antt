@@ -1,23 +1,16 @@
 -- The units of real numbers: "a bare number, metres, degrees or radians, each carrying its 64-bit float" (02, No. 2).
-use Rattle.std.specs.Prelude.{cond, List, ℕ, Float}
-use Rattle.std.proofs.Math.Option.{Option, none, some}
+use Rattle.std.specs.Prelude.{cond, List, ℕ, Float, Option, None, Some}
 use Rattle.scan.specs.Byte.{ascii, same}
 use Rattle.reals.specs.declared.Measure.{Measure}
 use Rattle.reals.specs.declared.Measure.TheVariants as measure
 use Rattle.reals.specs.declared.Real.{Real}
 use Rattle.reals.specs.declared.Real.TheVariants as real
-use Rattle.reals.specs.declared.measures.Named.{Named}
-use Rattle.reals.specs.declared.measures.Named.TheVariants as named
 
 -- "m, deg or rad".
 unfoldable pub measure_named : List ℕ → Option Measure
 measure_named w =
-    cond (same w (ascii "m")) (some measure.Metres)
-    (cond (same w (ascii "deg")) (some measure.Degrees) (cond (same w (ascii "rad")) (some measure.Radians) none))
-
-abbrev pub named_option : Named → Option Measure
-named_option (named.Is m) = some m
-named_option named.Unknown = none
+    cond (same w (ascii "m")) (Some measure.Metres)
+    (cond (same w (ascii "deg")) (Some measure.Degrees) (cond (same w (ascii "rad")) (Some measure.Radians) None))
 
 -- A float in a unit.
 abbrev pub measured_in : Measure → Float → Real

@@ -1,7 +1,6 @@
 -- The real number that a text stands for: "Refusals: 18 for bad form, then 27 outside those bounds" (02, No. 2).
-use Rattle.std.specs.Prelude.{Bool, ◌&&◌, List, ℕ, leb, nat_abs}
-use Rattle.std.proofs.Math.Option.{Option}
-use Rattle.scan.specs.Outcome.{Outcome, ok, require, present, ◌>>=◌, ◌>>◌}
+use Rattle.std.specs.Prelude.{Bool, ◌&&◌, List, ℕ, leb, nat_abs, Option, Ok}
+use Rattle.scan.specs.Outcome.{Outcome, require, present, ◌>>=◌, ◌>>◌}
 use Rattle.scaling.specs.Limits.{coefficient_limit, power_limit}
 use Rattle.scaling.specs.Scale.{scaled}
 use Rattle.reals.specs.Measure.{measured_in}
@@ -21,7 +20,7 @@ unfoldable pub judged : Option Numeral → Outcome Real
 judged o = do
   x ← present o 18 0
   require (is_bounded x) 27 0
-  ok (value_in x)
+  Ok (value_in x)
 
 unfoldable pub real_of : List ℕ → Outcome Real
 real_of l = judged (numeral_of l)

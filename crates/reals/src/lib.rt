@@ -4,8 +4,6 @@
 pub mod measures;
 pub mod parse;
 
-use scan::Error;
-
 // The unit of a number; none for a bare number.
 #[derive(Clone, Copy)]
 pub enum Measure {
@@ -22,11 +20,4 @@ pub enum Real {
     Metres(f64),
     Degrees(f64),
     Radians(f64),
-}
-
-// The answer of reading a real number.
-#[derive(Clone, Copy)]
-pub enum Measured {
-    Value(Real),
-    Failed(Error),
 }

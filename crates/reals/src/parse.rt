@@ -1,94 +1,103 @@
 // A real number from its text: cut from the outside in, at the first `_`, then at the first `e`, then after the sign, then at the first
 // point.
-ghost use Rattle.std.specs.Prelude.{◌≡◌};
-ghost use Rattle.scan.specs.Outcome.{failed, error_at};
-ghost use Rattle.reals.specs.Answers.{measured_outcome};
+ghost use Rattle.std.specs.Prelude.{◌≡◌, option_map};
+ghost use Rattle.scan.specs.Search.{first_from, is};
+ghost use Rattle.reals.specs.Cut.{before, after};
 ghost use Rattle.reals.specs.Numerals.{with_digits, without_sign, with_sign, with_exponent};
 ghost use Rattle.reals.specs.Real.{judged, real_of};
 
-use super::{Measure, Measured};
+use super::{Measure, Real};
 use crate::measures;
-use crate::measures::Named;
-use scaling::digits::Digits;
-use scaling::power::Power;
 use scaling::{COEFFICIENT_LIMIT, digits, power, scale};
-use scan::{Error, Found};
+use scan::Error;
 use text::number;
-use text::number::Whole;
 
-// The real number that a text stands for. Errors: 18 it has not the form; 27 it is outside the bounds.
-pub fn parse(l: &[u8]) -> Measured
-    ensures { measured_outcome result ≡ real_of l.now }
+// The text has not the form.
+const BAD_FORM: Error = Error {
+    code: 18,
+    position: 0,
+};
+
+// The number is outside the bounds.
+const OUTSIDE: Error = Error {
+    code: 27,
+    position: 0,
+};
+
+// What stands before the first byte `b`, and what stands after it; all of the text, and nothing, where it does not stand there.
+#[tactic(auto, using(crate::proofs::CutLaws::found_inside))]
+fn cut(l: &[u8], b: u8) -> (&[u8], Option<&[u8]>)
+    ensures front { result.0.now ≡ before (first_from (is b) l.now 0) l.now }
+    ensures back { option_map (λ t. t.now) result.1 ≡ after (first_from (is b) l.now 0) l.now }
 {
-    match scan::find(l, 95, 0) {
-        Found::At(i) => match measures::by_name(&l[i + 1..]) {
-            Named::Is(m) => with_exponent(m, &l[..i]),
-            Named::Unknown => refusal(18),
-        },
-        Found::Nothing => with_exponent(Measure::Bare, l),
+    match scan::find(l, b, 0) {
+        Some(i) => (&l[..i], Some(&l[i + 1..])),
+        None => (l, None),
     }
 }
 
-fn refusal(code: u8) -> Measured
-    ensures { measured_outcome result ≡ failed (error_at code 0) }
+// The real number that a text stands for. Errors: 18 it has not the form; 27 it is outside the bounds.
+#[tactic(auto, unfolding(crate::specs::Real::real_of, crate::specs::Real::judged, crate::specs::Numerals::numeral_of))]
+pub fn parse(l: &[u8]) -> Result<Real, Error>
+    ensures { result ≡ real_of l.now }
 {
-    Measured::Failed(Error { code, position: 0 })
+    let (number, unit) = cut(l, b'_');
+    let measure = match unit {
+        Some(name) => measures::by_name(name).ok_or(BAD_FORM)?,
+        None => Measure::Bare,
+    };
+    with_exponent(measure, number)
 }
 
 // The text before the unit.
-fn with_exponent(m: Measure, l: &[u8]) -> Measured
-    ensures { measured_outcome result ≡ judged (with_exponent m l.now) }
+#[tactic(auto, unfolding(crate::specs::Real::judged, crate::specs::Numerals::with_exponent))]
+fn with_exponent(m: Measure, l: &[u8]) -> Result<Real, Error>
+    ensures { result ≡ judged (with_exponent m l.now) }
 {
-    match scan::find(l, 101, 0) {
-        Found::At(i) => match number::whole_number(&l[i + 1..]) {
-            Whole::Number(z) => with_sign(m, z, &l[..i]),
-            Whole::Invalid => refusal(18),
-        },
-        Found::Nothing => with_sign(m, 0, l),
-    }
+    let (number, text) = cut(l, b'e');
+    let exponent = match text {
+        Some(text) => number::whole_number(text).ok_or(BAD_FORM)?,
+        None => 0,
+    };
+    with_sign(m, exponent, number)
 }
 
 // The text before the exponent.
-fn with_sign(m: Measure, exponent: i64, l: &[u8]) -> Measured
-    ensures { measured_outcome result ≡ judged (with_sign m exponent l.now) }
+#[tactic(auto, unfolding(crate::specs::Numerals::with_sign))]
+fn with_sign(m: Measure, exponent: i64, l: &[u8]) -> Result<Real, Error>
+    ensures { result ≡ judged (with_sign m exponent l.now) }
 {
-    let b = scan::byte_at(l, 0);
-    if b == 45 {
-        return without_sign(m, true, exponent, &l[1..]);
+    match l {
+        [b'-', size @ ..] => without_sign(m, true, exponent, size),
+        [b'+', size @ ..] => without_sign(m, false, exponent, size),
+        _ => without_sign(m, false, exponent, l),
     }
-    if b == 43 {
-        return without_sign(m, false, exponent, &l[1..]);
-    }
-    without_sign(m, false, exponent, l)
 }
 
 // The text between sign and exponent.
-fn without_sign(m: Measure, negative: bool, exponent: i64, l: &[u8]) -> Measured
-    ensures { measured_outcome result ≡ judged (without_sign m negative exponent l.now) }
+#[tactic(auto, unfolding(crate::specs::Numerals::without_sign))]
+fn without_sign(m: Measure, negative: bool, exponent: i64, l: &[u8]) -> Result<Real, Error>
+    ensures { result ≡ judged (without_sign m negative exponent l.now) }
 {
-    match scan::find(l, 46, 0) {
-        Found::At(i) => with_digits(m, negative, exponent, &l[..i], &l[i + 1..]),
-        Found::Nothing => with_digits(m, negative, exponent, l, &l[..0]),
-    }
+    let (whole, fraction) = cut(l, b'.');
+    with_digits(m, negative, exponent, whole, fraction.unwrap_or(&[]))
 }
 
 // The digits before and after the point.
-fn with_digits(m: Measure, negative: bool, exponent: i64, whole: &[u8], fraction: &[u8]) -> Measured
-    ensures { measured_outcome result ≡ judged (with_digits m negative exponent whole.now fraction.now) }
+#[tactic(auto, unfolding(crate::specs::Real::judged, crate::specs::Numerals::with_digits, scaling::specs::Capped::cap, scaling::specs::Capped::bounded))]
+fn with_digits(
+    m: Measure,
+    negative: bool,
+    exponent: i64,
+    whole: &[u8],
+    fraction: &[u8],
+) -> Result<Real, Error>
+    ensures { result ≡ judged (with_digits m negative exponent whole.now fraction.now) }
 {
-    match digits::coefficient(whole, fraction) {
-        Digits::Invalid => refusal(18),
-        Digits::Value(c) => {
-            if c > COEFFICIENT_LIMIT {
-                return refusal(27);
-            }
-            match power::resulting(exponent, fraction.len()) {
-                Power::Of(p) => Measured::Value(measures::measured_in(
-                    m,
-                    scale::scaled_by(negative, c, p),
-                )),
-                Power::Outside => refusal(27),
-            }
-        }
+    let c = digits::coefficient(whole, fraction).ok_or(BAD_FORM)?;
+    if c > COEFFICIENT_LIMIT {
+        return Err(OUTSIDE);
     }
+    let power = power::resulting(exponent, fraction.len()).ok_or(OUTSIDE)?;
+    Ok(measures::measured_in(m, scale::scaled_by(negative, c, power)))
 }

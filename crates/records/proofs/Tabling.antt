@@ -1,11 +1,10 @@
--- The rows of a plan as numbers, laid over the lent numbers row by row.
+-- Rows as numbers, laid over the lent numbers row by row.
 use mathlib.Core.Path.{◌≡◌, refl, sym, ap, ◌∙◌}
-use mathlib.Core.List.{List, [], ◌∷◌, ◌++◌, append_assoc}
-use Prim.Native.Nat.{ℕ, zero, suc, ◌+◌, ◌*◌, ◌≤◌, ◌<◌}
+use mathlib.Core.List.{List, [], ◌∷◌, ◌++◌}
+use Prim.Native.Nat.{ℕ, zero, suc, ◌+◌, ◌*◌, ◌≤◌}
 use native.Mathlib.Omega.{arith}
-use native.Mathlib.Numerals.{add-one}
-use lib.ListN.{length, get_or, set, take, drop}
-use lib.Seq.{take-suc, take-length, drop-drop, paste, paste-suc}
+use lib.ListN.{length, get_or, take}
+use lib.Seq.{take-suc, take-length}
 use Rattle.scan.specs.Buffer.{over}
 use Rattle.raster.specs.Bytes.{joined}
 use Rattle.raster.specs.Strided.{patched}
@@ -41,24 +40,8 @@ pub laid_more : (rows : List Row) (d : List ℕ) (i : ℕ) (l q : List ℕ) → 
     → patched (7 * i) 7 l q ≡ over (joined (i + 1) (piece rows)) d
 laid_more rows d i l q e f = piece_more (piece rows) 7 (i + 1) d (λ j h. refl) i (7 * i) 7 l q (omega arith) e refl refl f
 
-pub laid_all : (rows : List Row) (d : List ℕ) (n i : ℕ) (l : List ℕ) → n ≤ length rows → i ≡ n → l ≡ over (joined i (piece rows)) d
-    → l ≡ over (all_numbers (take n rows)) d
-laid_all rows d n i l h q e =
-    e ∙ ap (λ (k : ℕ). over (joined k (piece rows)) d) q ∙ ap (λ (w : List ℕ). over w d) (joined_rows_lem rows n h)
-
--- ---- One row, number by number
-
--- One number more is written.
-pub paste_more : (d : List ℕ) (at : ℕ) (b l : List ℕ) (j : ℕ) → l ≡ paste d at b j → at + j < length d → j < length b
-    → set l (at + j) (get_or b j 0) ≡ paste d at b (j + 1)
-paste_more d at b l j e h k =
-    ap (λ (x : List ℕ). set x (at + j) (get_or b j 0)) e ∙ paste-suc d at b j 0 h k ∙ ap (paste d at b) (sym (add-one j))
-
--- With all written, they stand in place of those that stood there.
-pub pasted : (d : List ℕ) (at : ℕ) (b l : List ℕ) (j : ℕ) → l ≡ paste d at b j → j ≡ length b → l ≡ patched at (length b) d b
-pasted d at b l j e h =
-    e
-    ∙ ap (paste d at b) h
-    ∙ (λ i. (take at d ++ take-length b i) ++ drop (at + length b) d)
-    ∙ append_assoc (take at d) b (drop (at + length b) d)
-    ∙ ap (λ (x : List ℕ). take at d ++ (b ++ x)) (sym (drop-drop (length b) at d))
+pub laid_all : (rows : List Row) (d : List ℕ) (i : ℕ) (l : List ℕ) → i ≡ length rows → l ≡ over (joined i (piece rows)) d
+    → l ≡ over (all_numbers rows) d
+laid_all rows d i l q e =
+    e ∙ ap (λ (k : ℕ). over (joined k (piece rows)) d) q
+    ∙ ap (λ (w : List ℕ). over w d) (joined_rows_lem rows (length rows) (omega arith) ∙ ap all_numbers (take-length rows))

@@ -4,7 +4,7 @@ use Rattle.std.specs.Prelude.{List, [], ◌∷◌, ℕ, suc, ◌-◌, ◌^◌, �
 use Rattle.blocks.specs.declared.Row.{Row}
 use Rattle.description.specs.declared.Description.{Description}
 use Rattle.origins.specs.Letter.{number_of}
-use Rattle.origins.specs.declared.Origins.{Origins}
+use Rattle.origins.specs.Origins.{FieldOrigins}
 
 -- Two's complement, in 64 bits; `negsuc n` is -(n + 1).
 abbrev pub bits_of : ℤ → ℕ
@@ -17,7 +17,7 @@ row_numbers r =
     r.start ∷ r.header ∷ r.size ∷ r.kind ∷ bits_of r.sequence ∷ r.instance ∷ bits_of r.memory ∷ []
 
 -- The numbers of the origins: "Each of the seven described fields carries an origin" (02, No. 1).
-abbrev pub origin_numbers : Origins → List ℕ
+abbrev pub origin_numbers : FieldOrigins → List ℕ
 origin_numbers o =
     number_of o.datatype
     ∷ number_of o.byteorder

@@ -2,61 +2,40 @@
 // overflow.
 ghost use Rattle.std.specs.Prelude.{◌≡◌, ◌++◌, ◌+◌, ◌≤◌};
 ghost use Rattle.text.specs.Number.{natural, digits_from};
-ghost use Rattle.scaling.specs.Answers.{digits_option};
 ghost use Rattle.scaling.specs.Capped.{cap, capped};
 ghost use Rattle.scaling.specs.Limits.{coefficient_limit};
 
 use crate::COEFFICIENT_LIMIT;
 
-#[derive(Clone, Copy)]
-pub enum Digits {
-    Value(u64),
-    Invalid,
-}
-
 // What further digits make of v.
-fn further(v: u64, l: &[u8]) -> Digits
+fn further(v: u64, l: &[u8]) -> Option<u64>
     requires { v ≤ coefficient_limit + 1 }
-    ensures { digits_option result ≡ capped (digits_from v l.now) }
+    ensures { result ≡ capped (digits_from v l.now) }
 {
     let mut n = v;
-    let mut i = 0;
-    while i < l.len() {
-        let b = l[i];
-        if b < 48 {
-            return Digits::Invalid;
+    for &b in l {
+        if !b.is_ascii_digit() {
+            return None;
         }
-        if b > 57 {
-            return Digits::Invalid;
-        }
-        n = capped_at(n * 10 + ((b - 48) as u64));
-        i += 1;
+        n = capped_at(n * 10 + u64::from(b - b'0'));
     }
-    Digits::Value(n)
+    Some(n)
 }
 
 // n, and one more than the largest coefficient for all that is above it.
+#[tactic(auto, unfolding(crate::specs::Capped::cap))]
 fn capped_at(n: u64) -> u64
     ensures { result ≡ cap n }
 {
-    if n <= COEFFICIENT_LIMIT {
-        n
-    } else {
-        COEFFICIENT_LIMIT + 1
-    }
+    n.min(COEFFICIENT_LIMIT + 1)
 }
 
 // The number that digits before and after a point stand for.
-pub fn coefficient(whole: &[u8], fraction: &[u8]) -> Digits
-    ensures { digits_option result ≡ capped (natural (whole.now ++ fraction.now)) }
+pub fn coefficient(whole: &[u8], fraction: &[u8]) -> Option<u64>
+    ensures { result ≡ capped (natural (whole.now ++ fraction.now)) }
 {
-    if whole.len() == 0 {
-        if fraction.len() == 0 {
-            return Digits::Invalid;
-        }
+    if whole.is_empty() && fraction.is_empty() {
+        return None;
     }
-    match further(0, whole) {
-        Digits::Value(n) => further(n, fraction),
-        Digits::Invalid => Digits::Invalid,
-    }
+    further(further(0, whole)?, fraction)
 }

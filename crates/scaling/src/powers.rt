@@ -9,6 +9,7 @@ const POWERS: [f64; 23] = [
 ];
 
 // 10^k, exactly.
+#[tactic(auto, using(crate::proofs::TableLaws::power_is))]
 pub fn power_of_ten(k: usize) -> f64
     requires { k ≤ power_limit }
     ensures { Holds result false (10 ^ k) }

@@ -18,6 +18,7 @@ fn exactly(c: u64) -> f64
 }
 
 // c * 10^k.
+#[tactic(auto, using(crate::proofs::RoundingLaws::mul_whole, crate::proofs::RoundingLaws::ten_pos))]
 fn times(c: u64, k: usize) -> f64
     requires { (c ≤ coefficient_limit) × (k ≤ power_limit) }
     ensures { result ≡ round binary64 false (c * 10 ^ k) 1 }
@@ -26,6 +27,7 @@ fn times(c: u64, k: usize) -> f64
 }
 
 // c / 10^k.
+#[tactic(auto, using(crate::proofs::RoundingLaws::div_whole, crate::proofs::RoundingLaws::ten_pos))]
 fn over(c: u64, k: usize) -> f64
     requires { (c ≤ coefficient_limit) × (k ≤ power_limit) }
     ensures { result ≡ round binary64 false c (10 ^ k) }
@@ -41,12 +43,14 @@ fn with_sign(negative: bool, x: f64) -> f64
 }
 
 // c * 10^power with the sign.
+#[tactic(auto, using(crate::proofs::RoundingLaws::over_is), unfolding(crate::specs::Scale::scaled))]
 pub fn scaled_by(negative: bool, c: u64, power: Parts) -> f64
     requires { (c ≤ coefficient_limit) × (nat_abs (int_of power) ≤ power_limit) }
     ensures { result ≡ scaled negative c (int_of power) }
 {
-    match power {
-        Parts::Up(k) => with_sign(negative, times(c, k as usize)),
-        Parts::Down(k) => with_sign(negative, over(c, (k + 1) as usize)),
-    }
+    let x = match power {
+        Parts::Up(k) => times(c, k as usize),
+        Parts::Down(k) => over(c, (k + 1) as usize),
+    };
+    with_sign(negative, x)
 }

@@ -1,4 +1,5 @@
+pub mod Digits
+pub mod HighEnd
 pub mod Inverting
 pub mod Scaling
 pub mod Sums
-pub mod Swaps

@@ -1,8 +1,9 @@
 -- What a `Shift` does to an element, and when it adds an offset.
-use Rattle.std.specs.Prelude.{◌≡◌, ℕ, ◌+◌, ◌-◌, ◌*◌, ◌/◌, ◌%◌, ◌^◌, ◌<◌, min, Bool, cond, ◌⊎◌, List, reverse, ℤ, ◌==◌, bit_xor}
-use Rattle.raster.specs.Bytes.{low_first, low_bytes, number_of, bytes_of}
+use Rattle.std.specs.Prelude.{◌≡◌, ℕ, ◌+◌, ◌-◌, ◌/◌, ◌%◌, ◌^◌, ◌<◌, min, Bool, cond, ◌⊎◌, List, ℤ, bit_xor}
+use Rattle.raster.specs.Bytes.{number_of, bytes_of}
 use Rattle.raster.specs.Element.{offset_bits}
-use Rattle.raster.specs.Types.{Class, unsigned, signed}
+use Rattle.raster.specs.declared.types.Class.{Class}
+use Rattle.raster.specs.declared.types.Class.TheVariants.{Unsigned as unsigned, Signed as signed}
 use Rattle.shift.specs.declared.shift.Shift.{Shift}
 
 -- The weight of an element of w bytes at the high end of 64 bits.
@@ -14,22 +15,6 @@ weight w = 256 ^ (8 - w)
 unfoldable pub shift_by : ℕ → Shift → ℕ → ℕ
 shift_by w s n =
     bit_xor ((min (s.high / weight w) (bit_xor n (s.inverted / weight w)) + s.delta / weight w) % 256 ^ w) (s.inverted / weight w)
-
--- The same of 64 bits, with an element of the weight k at their high end.
-unfoldable pub shift_high : ℕ → Shift → ℕ → ℕ
-shift_high k s v = bit_xor ((min s.high (bit_xor v s.inverted) + s.delta / k * k) % 2 ^ 64) s.inverted
-
--- 64 bits with their bytes reversed.
-unfoldable pub swapped : ℕ → ℕ
-swapped v = low_first (reverse (low_bytes 8 v))
-
--- An element that was read low byte first, in its own byte order at the high end of 64 bits; and from there back, to be
--- written low byte first. `k` is its weight.
-unfoldable pub aligned_from : ℕ → ℕ → ℕ → ℕ
-aligned_from order k x = cond (order == 1) (swapped x) (x * k)
-
-unfoldable pub restored_to : ℕ → ℕ → ℕ → ℕ
-restored_to asked k r = cond (asked == 1) (swapped r) (r / k)
 
 -- Of the bytes of an element.
 unfoldable pub shifted_bytes : ℕ → Shift → ℕ → ℕ → List ℕ → List ℕ

@@ -1,71 +1,58 @@
 -- The stored array of a block, by the block's view and its description.
+use Rattle.std.specs.Prelude.{Ok, Err}
+use Rattle.scan.specs.Outcome.{Outcome, require, ◌>>=◌, ◌>>◌}
 use mathlib.Core.Path.{◌≡◌, refl, sym, ap, subst, ◌∙◌}
 use mathlib.Core.Bool.{Bool, true, false}
 use mathlib.Core.List.{List}
 use Prim.Native.Nat.{ℕ, ◌+◌, ◌*◌, ◌≤◌}
 use native.Mathlib.Omega.{arith}
 use borrow.Author.Tests.{le-leb}
-use lib.IntN.{ℤ}
 use lib.ListN.{length, take, drop}
 use lib.Seq.{take-take}
-use mir.Syntax.{w64}
-use mir.Val.{SFits, to_z, of_z}
-use mir.ValLaws.{to_z-of_z}
 use Rattle.scan.specs.Byte.{part_of}
-use Rattle.scan.specs.Outcome.{Outcome, ok, failed, require, ◌>>=◌, ◌>>◌}
 use Rattle.scan.specs.declared.Error.{Error}
-use Rattle.scan.proofs.Cases.{by_test, ok-failed}
+use Rattle.scan.proofs.Cases.{ok-failed}
 use Rattle.keyword.specs.Keyword.{View, view_of}
 use Rattle.keyword.proofs.Views.{view_inside}
 use Rattle.raster.specs.Position.{product}
 use Rattle.raster.specs.Strided.{Octets}
 use Rattle.raster.proofs.Stored.{octets_part}
-use Rattle.description.specs.Describe.{is_zero, description_in, description_of}
+use Rattle.description.specs.Describe.{description_in, description_of}
 use Rattle.description.specs.Shape.{array_type, array_dims}
 use Rattle.description.specs.declared.Description.{Description}
 use Rattle.description.proofs.DescribedLaws.{step_ok, check_ok, same_ok, block_valid}
 use Rattle.array.specs.Delivery.{data_of, is_order, delivered, array_in}
 use Rattle.array.proofs.ReadLaws.{no_block, no_description, no_array, array_is, array_valid}
-use Rattle.stored.specs.Stored.{stored_with, stored_array, stored_outcome, Delivers}
-use Rattle.stored.specs.declared.Stored.{Stored}
-use Rattle.stored.specs.declared.Stored.TheVariants as stored
+use Rattle.stored.specs.Stored.{stored_with, stored_array, Delivers}
 use Rattle.stored.specs.declared.StoredArray.{StoredArray}
-use Rattle.stored.proofs.Kept.{zero_offset, front-delivered}
+use Rattle.stored.proofs.Kept.{front-delivered}
 
--- ---- The test of an offset
-
-pub offset_not : (z : ℤ) → (of_z w64 z ≡ 0 → ⊥) → is_zero z ≡ false
-offset_not z h = by_test (is_zero z) (λ e. absurd (h (ap (of_z w64) (zero_offset z e)))) (λ e. e)
-
-pub offset_is : (z : ℤ) → SFits w64 z → of_z w64 z ≡ 0 → is_zero z ≡ true
-offset_is z F e = ap is_zero (sym (to_z-of_z w64 z F) ∙ ap (to_z w64) e)
-
-same-failed : {A : Type 0} {x y : Error} → ◌≡◌ {A = Outcome A} (failed x) (failed y) → x ≡ y
+same-failed : {A : Type 0} {x y : Error} → ◌≡◌ {A = Outcome A} (Err x) (Err y) → x ≡ y
 same-failed e = cc
 
 -- ---- What an answer says about delivery: both have made the same check of the order
 
-says : (s : List ℕ) (k asked : ℕ) (a : StoredArray) (w : List ℕ) (test : Bool) (r : Stored)
-    → stored_outcome r ≡ (require test 24 0 >> ok a) → array_in s k asked ≡ (require test 24 0 >> ok w)
+says : (s : List ℕ) (k asked : ℕ) (a : StoredArray) (w : List ℕ) (test : Bool) (r : Outcome StoredArray)
+    → r ≡ (require test 24 0 >> Ok a) → array_in s k asked ≡ (require test 24 0 >> Ok w)
     → (a.delivered ≡ true → w ≡ part_of s a.span) → Delivers s k asked r
-says s k asked a w true (stored.Array x) e f g =
+says s k asked a w true (Ok x) e f g =
     let q : x ≡ a = same_ok e in
-    λ h. f ∙ ap ok (g (ap (λ (y : StoredArray). y.delivered) (sym q) ∙ h)) ∙ ap (λ (y : StoredArray). ok (part_of s y.span)) (sym q)
-says s k asked a w true (stored.Failed x) e f g = absurd (ok-failed (sym e))
-says s k asked a w false (stored.Array x) e f g = absurd (ok-failed e)
-says s k asked a w false (stored.Failed x) e f g = f ∙ ap failed (sym (same-failed e))
+    λ h. f ∙ ap Ok (g (ap (λ (y : StoredArray). y.delivered) (sym q) ∙ h)) ∙ ap (λ (y : StoredArray). Ok (part_of s y.span)) (sym q)
+says s k asked a w true (Err x) e f g = absurd (ok-failed (sym e))
+says s k asked a w false (Ok x) e f g = absurd (ok-failed e)
+says s k asked a w false (Err x) e f g = f ∙ ap Err (sym (same-failed e))
 
 module _ (s : List ℕ) (k asked : ℕ) where
-  pub unseen : {x : Error} → failed x ≡ view_of s k → (failed x ≡ stored_array s k asked) × (array_in s k asked ≡ failed x)
+  pub unseen : {x : Error} → Err x ≡ view_of s k → (Err x ≡ stored_array s k asked) × (array_in s k asked ≡ Err x)
   unfolding stored_array
   unseen e = (rw (← e) refl, sym (no_array s k (no_block s k e) asked))
 
-  module _ (v : View) (e : ok v ≡ view_of s k) where
-    pub undescribed : {x : Error} → failed x ≡ description_in v → (failed x ≡ stored_array s k asked) × (array_in s k asked ≡ failed x)
+  module _ (v : View) (e : Ok v ≡ view_of s k) where
+    pub undescribed : {x : Error} → Err x ≡ description_in v → (Err x ≡ stored_array s k asked) × (array_in s k asked ≡ Err x)
     unfolding stored_array
     undescribed f = (rw (← e, ← f) refl, sym (no_array s k (no_description s k v e f) asked))
 
-    module _ (d : Description) (f : ok d ≡ description_in v) where
+    module _ (d : Description) (f : Ok d ≡ description_in v) where
       -- Where the data of the block starts.
       abbrev start : ℕ
       start = v.row.start + v.row.header
@@ -74,7 +61,7 @@ module _ (s : List ℕ) (k asked : ℕ) where
       unfolding stored_array
       with_description = rw (← e, ← f) refl
 
-      array_given : array_in s k asked ≡ (require (is_order asked) 24 0 >> ok (delivered d asked (data_of s v)))
+      array_given : array_in s k asked ≡ (require (is_order asked) 24 0 >> Ok (delivered d asked (data_of s v)))
       unfolding array_in
       array_given = rw (← array_is s k v e f) refl
 
@@ -84,7 +71,7 @@ module _ (s : List ℕ) (k asked : ℕ) where
           let inside = (view_inside s k v (sym e)).0 in
           rw (le-leb (start + n) (length s) (omega arith)) (take-take n v.row.size (drop start s) h)
 
-      pub delivers : Octets s → (r : Stored) → stored_outcome r ≡ stored_with start d asked → Delivers s k asked r
+      pub delivers : Octets s → (r : Outcome StoredArray) → r ≡ stored_with start d asked → Delivers s k asked r
       unfolding stored_with
       delivers octets r g =
           let n = product (array_dims d) * (array_type d).width in
@@ -96,8 +83,8 @@ module _ (s : List ℕ) (k asked : ℕ) where
   -- ---- What is known of a stored array that is answered
 
   -- Its description is the block's, its span is as long as the description says, and inside the file.
-  pub stored_seen : (a : StoredArray) → stored_array s k asked ≡ ok a
-      → (description_of s k ≡ ok a.description)
+  pub stored_seen : (a : StoredArray) → stored_array s k asked ≡ Ok a
+      → (description_of s k ≡ Ok a.description)
       × ((a.span.length ≡ product (array_dims a.description) * (array_type a.description).width)
       × (a.span.offset + a.span.length ≤ length s))
   unfolding stored_array stored_with description_of
@@ -110,7 +97,7 @@ module _ (s : List ℕ) (k asked : ℕ) where
       let held = (block_valid v q.0 q.1).stored in
       subst
       (λ (x : StoredArray).
-      (description_of s k ≡ ok x.description)
+      (description_of s k ≡ Ok x.description)
       × ((x.span.length ≡ product (array_dims x.description) * (array_type x.description).width)
       × (x.span.offset + x.span.length ≤ length s)))
       (same_ok t.2) (ap (λ (o : Outcome View). o >>= description_in) p.1 ∙ q.1, (refl, omega arith))

@@ -1,15 +1,13 @@
 -- Where a block's array stands in its file, and when its bytes there are those that delivery writes.
-use Rattle.std.specs.Prelude.{◌≡◌, Bool, true, ◌&&◌, ◌||◌, List, ℕ, ◌+◌, ◌*◌, eqb}
+use Rattle.std.specs.Prelude.{◌≡◌, Bool, true, ◌&&◌, ◌||◌, List, ℕ, ◌+◌, ◌*◌, eqb, Ok, Err}
+use Rattle.scan.specs.Outcome.{Outcome, require, ◌>>=◌, ◌>>◌}
 use Rattle.scan.specs.Byte.{part_of}
-use Rattle.scan.specs.Outcome.{Outcome, ok, failed, require, ◌>>=◌, ◌>>◌}
 use Rattle.keyword.specs.Keyword.{view_of}
 use Rattle.raster.specs.Position.{product}
 use Rattle.description.specs.Describe.{is_zero, description_in}
 use Rattle.description.specs.Shape.{array_type, array_dims}
 use Rattle.description.specs.declared.Description.{Description}
 use Rattle.array.specs.Delivery.{is_order, array_in}
-use Rattle.stored.specs.declared.Stored.{Stored}
-use Rattle.stored.specs.declared.Stored.TheVariants as stored
 use Rattle.stored.specs.declared.StoredArray.{StoredArray}
 
 -- An array is stored as it is delivered in the order asked for: "Delivered arrays have configuration 1"; no offset is added; and
@@ -22,7 +20,7 @@ as_delivered d asked =
 unfoldable pub stored_with : ℕ → Description → ℕ → Outcome StoredArray
 stored_with offset d asked = do
   require (is_order asked) 24 0
-  ok (record {
+  Ok (record {
     description = d;
     span = record { offset = offset; length = product (array_dims d) * (array_type d).width };
     delivered = as_delivered d asked;
@@ -35,13 +33,8 @@ stored_array s block asked = do
   d ← description_in b
   stored_with (b.row.start + b.row.header) d asked
 
--- The stored array, or the error.
-abbrev pub stored_outcome : Stored → Outcome StoredArray
-stored_outcome (stored.Array a) = ok a
-stored_outcome (stored.Failed e) = failed e
-
 -- What an answer says about delivery: where the array is stored as it is delivered, the part of the file at its span is the array
 -- delivered; an error is that of delivery.
-abbrev pub Delivers : List ℕ → ℕ → ℕ → Stored → Type 0
-Delivers s block asked (stored.Array a) = a.delivered ≡ true → array_in s block asked ≡ ok (part_of s a.span)
-Delivers s block asked (stored.Failed e) = array_in s block asked ≡ failed e
+abbrev pub Delivers : List ℕ → ℕ → ℕ → Outcome StoredArray → Type 0
+Delivers s block asked (Ok a) = a.delivered ≡ true → array_in s block asked ≡ Ok (part_of s a.span)
+Delivers s block asked (Err e) = array_in s block asked ≡ Err e

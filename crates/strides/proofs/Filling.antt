@@ -30,14 +30,34 @@ over_part p q d l o k e n m =
     (drop-drop k (length p) d ∙ ap (λ (j : ℕ). drop (length p + j) d) (sym m) ∙ ap (λ (j : ℕ). drop j d) (sym (length-append p q)))
     ∙ sym (append_assoc p q (drop (length (p ++ q)) d))
 
+-- Pieces of m bytes each, of which the first i are written to the buffer d.
+module _ (f : ℕ → List ℕ) (m : ℕ) (d : List ℕ) where
+  -- A turn: the next piece is written.
+  pub joined_more : (i : ℕ) (l q r : List ℕ) → (length (joined i f) ≡ m * i) × (l ≡ over (joined i f) d) → length q ≡ m → q ≡ f i
+      → r ≡ patched (m * i) m l q → (length (joined (i + 1) f) ≡ m * (i + 1)) × (r ≡ over (joined (i + 1) f) d)
+  joined_more i l q r (w, e) n g h =
+      let t : joined (i + 1) f ≡ joined i f ++ q = joined_next i f ∙ ap (λ (x : List ℕ). joined i f ++ x) (sym g) in (
+        ap length t ∙ length-append (joined i f) q ∙ (λ j. w j + n j) ∙ sym (mul-suc m i) ∙ ap (λ (k : ℕ). m * k) (sym (add-one i)),
+        h ∙ over_part (joined i f) q d l (m * i) m e w n ∙ ap (λ (x : List ℕ). over x d) (sym t),
+      )
+
+  -- The end: all n are.
+  pub joined_all : (i n : ℕ) (l : List ℕ) → i ≤ n → n ≤ i → length d ≡ m * n → (length (joined i f) ≡ m * i) × (l ≡ over (joined i f) d)
+      → l ≡ joined n f
+  joined_all i n l h k b (w, e) =
+      let j = le_antisymm h k in
+      let r : length d ≤ length (joined i f) = omega (arith, b, w, ap (λ (x : ℕ). m * x) j) in
+      e ∙ ap (λ (x : List ℕ). joined i f ++ x) (drop_of_length-le d {i = length (joined i f)} r)
+      ∙ append-nil (joined i f) ∙ ap (λ (x : ℕ). joined x f) j
+
 -- A buffer in two parts, lent one after the other: h bytes from its front, and what is left.
 module _ (d p : List ℕ) (h : ℕ) (room : h ≤ length d) (first : length p ≡ h) where
   -- The buffer with the first part written.
   abbrev begun : List ℕ
-  begun = patched 0 (h - 0) d p
+  begun = patched 0 h d p
 
   begun_is : begun ≡ over p d
-  begun_is = let e : h - 0 ≡ length p = omega arith in ap (λ (i : ℕ). p ++ drop i d) e
+  begun_is = ap (λ (i : ℕ). p ++ drop i d) (sym first)
 
   begun_length : length begun ≡ length d
   begun_length = ap length begun_is ∙ simp (length-append, length-drop) (omega arith)

@@ -1,11 +1,12 @@
 -- Rows in two parts, and rows of which the elements stand in a part of the file.
 use mathlib.Core.Path.{◌≡◌, refl, sym, ap, ◌∙◌}
-use mathlib.Core.List.{List, [], ◌∷◌, ◌++◌}
-use Prim.Native.Nat.{ℕ, zero, suc, ◌+◌, ◌-◌, ◌*◌, ◌≤◌}
-use native.Mathlib.Nat.{zero-mul, mul-add}
+use mathlib.Core.List.{List, [], ◌∷◌, ◌++◌, append-nil}
+use Prim.Native.Nat.{ℕ, zero, suc, ◌+◌, ◌-◌, ◌*◌, ◌<◌, ◌≤◌}
+use native.Mathlib.Nat.{add-zero, zero-mul, mul-add}
 use native.Mathlib.Omega.{arith}
 use lib.ListN.{length, take, drop}
 use lib.Seq.{take-take, drop-drop}
+use Rattle.raster.specs.Bytes.{joined}
 use Rattle.raster.specs.Strided.{patched, place, Inside, row_of}
 use Rattle.raster.proofs.Joined.{joined_same, joined_add}
 use Rattle.strides.proofs.Filling.{two_parts}
@@ -49,6 +50,13 @@ module _ (f : List ℕ → List ℕ) (w : ℕ) where
       ap f
       (within x w k (drop p s) (omega arith) ∙ ap (take w) (drop-drop x p s) ∙ ap (λ (j : ℕ). take w (drop j s)) e))
 
+  -- The same where no element may be in the second part.
+  pub strided_halves : (s : List ℕ) (at up down a b p : ℕ) → (0 < b → down * a ≤ at + up * a) → p ≡ place at up down a
+      → row_of f w s at up down (a + b) ≡ row_of f w s at up down a ++ row_of f w s p up down b
+  unfolding row_of joined
+  strided_halves s at up down a zero p h e = ap (row_of f w s at up down) (add-zero a) ∙ sym (append-nil (row_of f w s at up down a))
+  strided_halves s at up down a (suc b) p h e = strided_add s at up down a (suc b) p (h (omega arith)) e
+
 -- The elements from index a on, of which the first stands at p.
 pub rest_inside : (at up down a n p w len : ℕ) → a ≤ n → down * a ≤ at + up * a → p ≡ place at up down a → Inside at up down n w len
     → Inside p up down (n - a) w len
@@ -60,10 +68,10 @@ rest_inside at up down a n p w len h k e inside i t =
 
 -- A row in two parts of the buffer: the first has a elements, and the second, from p on, those that are left of n.
 module _ (f : List ℕ → List ℕ) (w : ℕ) (keeps : (l : List ℕ) → length l ≡ w → length (f l) ≡ w) (s : List ℕ) (at up down a n h p : ℕ)
-    (fits : a ≤ n) (before : down * a ≤ at + up * a) (next : p ≡ place at up down a) (inside : Inside at up down n w (length s))
+    (fits : a ≤ n) (before : a < n → down * a ≤ at + up * a) (next : p ≡ place at up down a) (inside : Inside at up down n w (length s))
     (d l : List ℕ) (front : h ≡ w * a) (whole : length d ≡ w * n) (first : l ≡ row_of f w s at up down a) where
   abbrev begun : List ℕ
-  begun = patched 0 (h - 0) d l
+  begun = patched 0 h d l
 
   pub parts_whole : (q : List ℕ) → q ≡ row_of f w s p up down (n - a) → patched h (length begun - h) begun q ≡ row_of f w s at up down n
   parts_whole q e =
@@ -71,6 +79,6 @@ module _ (f : List ℕ → List ℕ) (w : ℕ) (keeps : (l : List ℕ) → lengt
       let z : w * n ≡ w * a + w * (n - a) = ap (λ (k : ℕ). w * k) (sym y) ∙ mul-add w a (n - a) in
       let m : length l ≡ h = ap length first ∙ length_row f w keeps s at up down a (λ i k. inside i (omega arith)) ∙ sym front in
       let r : length q ≡ length d - h =
-      ap length e ∙ length_row f w keeps s p up down (n - a) (rest_inside at up down a n p w (length s) fits before next inside) ∙ omega arith in
-      two_parts d l h (omega arith) m q r ∙ (λ i. first i ++ e i) ∙ sym (strided_add f w s at up down a (n - a) p before next)
+      ap length e ∙ length_row f w keeps s p up down (n - a) (λ i t. rest_inside at up down a n p w (length s) fits (before (omega arith)) next inside i t) ∙ omega arith in
+      two_parts d l h (omega arith) m q r ∙ (λ i. first i ++ e i) ∙ sym (strided_halves f w s at up down a (n - a) p (λ t. before (omega arith)) next)
       ∙ ap (row_of f w s at up down) y

@@ -44,9 +44,12 @@ module _ (f : List ℕ → List ℕ) (w : ℕ) (keeps : (l : List ℕ) → lengt
 pub asked : (w v at up down n len m : ℕ) → w ≡ v → Inside at up down n w len → m ≡ w * n → Inside at up down n v len × (m ≡ v * n)
 asked w v at up down n len m e i l = (subst (λ (k : ℕ). Inside at up down n k len) e i, subst (λ (k : ℕ). m ≡ k * n) e l)
 
-pub gave : (f : List ℕ → List ℕ) (w v : ℕ) (s : List ℕ) (at up down n : ℕ) (l : List ℕ) → w ≡ v → l ≡ row_of f v s at up down n
-    → l ≡ row_of f w s at up down n
-gave f w v s at up down n l e h = h ∙ ap (λ (k : ℕ). row_of f k s at up down n) (sym e)
+-- What holds of each width holds of any.
+pub by_width : (P : ℕ → Type 0) → P 1 → P 2 → P 4 → P 8 → {w : ℕ} → Width w → P w
+by_width P a b c d (inl e) = subst P (sym e) a
+by_width P a b c d (inr (inl e)) = subst P (sym e) b
+by_width P a b c d (inr (inr (inl e))) = subst P (sym e) c
+by_width P a b c d (inr (inr (inr e))) = subst P (sym e) d
 
 pub width_one : {w : ℕ} → Width w → (w ≡ 8 → ⊥) → (w ≡ 4 → ⊥) → (w ≡ 2 → ⊥) → w ≡ 1
 width_one (inl e) a b c = e

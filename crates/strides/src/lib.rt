@@ -1,6 +1,6 @@
 #![tactic(auto)]
 
 // Rows of elements at any stride, one element a turn: a loop for each width.
-pub mod kept;
+pub mod changes;
 pub mod places;
-pub mod reversed;
+pub mod rows;

@@ -1,4 +1,6 @@
 -- A buffer that is filled from its front.
+use Rattle.std.specs.Prelude.{Ok}
+use Rattle.scan.specs.Outcome.{Outcome, refused}
 use mathlib.Core.Path.{◌≡◌, refl, sym, ap, subst, ◌∙◌}
 use mathlib.Core.List.{List, [], ◌∷◌, ◌++◌}
 use Prim.Native.Nat.{ℕ, zero, suc, ◌+◌, ◌≤◌, ◌<◌}
@@ -9,7 +11,6 @@ use borrow.Author.Tests.{le-leb, lt-leb}
 use lib.ListN.{length, take, drop, set, get_or, length-set}
 use lib.Seq.{drop-cons, drop-drop, take-length}
 use Rattle.scan.specs.Buffer.{over, length_written, buffer_after}
-use Rattle.scan.specs.Outcome.{Outcome, ok, refused}
 
 -- The list from an offset on: the code's `i + 1`.
 pub drop_next : (s : List ℕ) (i : ℕ) → i < length s → drop i s ≡ get_or s i 0 ∷ drop (i + 1) s
@@ -23,9 +24,6 @@ pub record Left (w d out : List ℕ) (count : ℕ) (rest : List ℕ) : Type 0 wh
   pub have : out ≡ take count w ++ drop count d
   pub left : drop count w ≡ rest
   pub room : count + length rest ≡ length w
-
-pub left_start : (w d : List ℕ) → Left w d d 0 w
-left_start w d = record { same = refl; have = refl; left = refl; room = omega arith }
 
 put_step : (w d r : List ℕ) (o v : ℕ) → drop o w ≡ v ∷ r → o < length w → o < length d
     → set (take o w ++ drop o d) o v ≡ take (suc o) w ++ drop (suc o) d
@@ -60,12 +58,12 @@ left_at {w} {d} {out} {r} e L = subst (λ (n : ℕ). Left w d out n r) e L
 
 -- The bytes fit and are written, or they do not and the buffer is as it was.
 pub fits : (w d : List ℕ) {out : List ℕ} {n : ℕ} → n ≡ length w → n ≤ length d → out ≡ over w d
-    → (ok n ≡ length_written (ok w) d) × (out ≡ buffer_after (ok w) d)
+    → (Ok n ≡ length_written (Ok w) d) × (out ≡ buffer_after (Ok w) d)
 unfolding length_written buffer_after
-fits w d {out} {n} e h k = let t = le-leb (length w) (length d) (omega arith) in (simp t (ap ok e), simp t k)
+fits w d {out} {n} e h k = let t = le-leb (length w) (length d) (omega arith) in (simp t (ap Ok e), simp t k)
 
 pub short : (w d : List ℕ) {n : ℕ} → n ≡ length w → length d < n
-    → (refused 22 0 ≡ length_written (ok w) d) × (d ≡ buffer_after (ok w) d)
+    → (refused 22 0 ≡ length_written (Ok w) d) × (d ≡ buffer_after (Ok w) d)
 unfolding length_written buffer_after
 short w d {n} e h = let t = lt-leb (length w) (length d) (omega arith) in (simp t, simp t)
 

@@ -1,8 +1,8 @@
 -- The decimal of a whole number stands for that number; how long it is, and which bytes it holds.
+use Rattle.std.specs.Prelude.{Some}
 use mathlib.Core.Path.{◌≡◌, refl, sym, ap, ◌∙◌, subst}
 use mathlib.Core.Bool.{Bool, true, ◌||◌}
 use mathlib.Core.List.{List, [], ◌∷◌}
-use mathlib.Core.Option.{some}
 use Prim.Native.Nat.{ℕ, zero, suc, ◌+◌, ◌*◌, ◌/◌, ◌%◌, ◌^◌, ◌≤◌, ◌<◌}
 use native.Mathlib.Nat.{pow-suc, div-lt_iff_lt-mul}
 use native.Mathlib.Omega.{arith}
@@ -76,11 +76,11 @@ no_sign l F =
 
 -- ---- There and back
 
-natural_back : (n : ℕ) → n ≤ 2 ^ 63 → natural (digits_of 19 n []) ≡ some n
+natural_back : (n : ℕ) → n ≤ 2 ^ 63 → natural (digits_of 19 n []) ≡ Some n
 unfolding digits_from
 natural_back n h = natural_is (digits_of 19 n []) (digits_front 18 n) ∙ digits_back 19 n [] (omega arith)
 
-pub decimal_back : (z : ℤ) → SFits w64 z → whole_number (decimal z) ≡ some z
+pub decimal_back : (z : ℤ) → SFits w64 z → whole_number (decimal z) ≡ Some z
 unfolding decimal whole_number
 decimal_back (pos n) F =
     let h : n < 2 ^ 63 = F.sfits in

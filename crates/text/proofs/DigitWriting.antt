@@ -6,10 +6,9 @@ use native.Mathlib.Nat.{le_of_suc-le-suc, not-suc-le-zero, pow-suc, div-lt_iff_l
 use native.Mathlib.Numerals.{add-one}
 use native.Mathlib.Omega.{arith}
 use borrow.Author.Tests.{lt-ltb, le-ltb}
-use lib.IntN.{negsuc}
 use lib.ListN.{length, take, drop, set, length-drop}
 use lib.Seq.{take_all, take-take, take-set-le}
-use Rattle.text.specs.Decimal.{digits_of, decimal}
+use Rattle.text.specs.Decimal.{digits_of}
 
 -- After a store at j, the list from j on begins with what was stored.
 stored : (t : List ℕ) (j g : ℕ) → j < length t → drop j (set t j g) ≡ g ∷ drop (suc j) t
@@ -45,15 +44,6 @@ pub last : (i n : ℕ) (out : List ℕ) → 0 < i → i < length out → n ≤ 9
 unfolding digits_of
 last zero n out some within h = absurd (omega arith)
 last (suc j) n out some within h = rw (add-one (suc j), stored out (suc j) (48 + n) within, lt-ltb n 10 (omega arith))
-
--- A minus in front of the digits.
-pub signed : (out : List ℕ) (at k : ℕ) → 0 < at → at ≤ length out → drop at out ≡ digits_of 19 (k + 1) []
-    → drop (at - 1) (set out (at - 1) 45) ≡ decimal (negsuc k)
-unfolding decimal
-signed out at k some within e =
-    let next : suc (at - 1) ≡ at = omega arith in
-    stored out (at - 1) 45 (omega arith)
-    ∙ ap (λ (l : List ℕ). 45 ∷ l) (ap (λ (j : ℕ). drop j out) next ∙ e ∙ ap (λ (j : ℕ). digits_of 19 j []) (add-one k))
 
 -- The part `&t[at..]` of an array of 20.
 pub end_is : (t : List ℕ) (at : ℕ) → length t ≡ 20 → take (20 - at) (drop at t) ≡ drop at t

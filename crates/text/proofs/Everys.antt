@@ -1,11 +1,17 @@
 -- `every` decides that each element of a list has a property, and its denial that some element lacks it.
-use mathlib.Core.Path.{refl}
+use Rattle.std.specs.List.{list_all}
+use mathlib.Core.Path.{◌≡◌, refl, ap}
 use mathlib.Core.Bool.{Bool, not, ◌&&◌}
 use mathlib.Core.List.Memᴰ
 use mathlib.Core.List.{List, [], ◌∷◌, Memᴰ}
 use mathlib.Core.Logic.{⊎_elim}
 use Rattle.scan.proofs.Decides.{Decides, holds, fails, decides_and, decides_by}
 use Rattle.text.specs.Text.{every}
+
+-- `every` is std's `list_all`.
+pub list_all-every : {A : Type 0} (p : A → Bool) (l : List A) → list_all p l ≡ every p l
+list_all-every p [] = refl
+list_all-every p (x ∷ l) = ap (λ (b : Bool). p x && b) (list_all-every p l)
 
 -- Each element has the property; some element lacks it.
 abbrev pub Each : {A : Type 0} → (A → Type 0) → List A → Type 0

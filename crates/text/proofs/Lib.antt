@@ -1,4 +1,5 @@
 pub mod Buffers
+pub mod Comparing
 pub mod Decimals
 pub mod DigitWriting
 pub mod Digits

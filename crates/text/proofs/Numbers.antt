@@ -1,8 +1,8 @@
 -- A whole number's text holds no point.
+use Rattle.std.specs.Prelude.{Option, None, Some}
 use mathlib.Core.Path.{◌≡◌, refl}
 use mathlib.Core.Bool.{Bool, true, false, cond}
 use mathlib.Core.List.{List, [], ◌∷◌}
-use mathlib.Core.Option.{Option, none, some}
 use Prim.Native.Nat.{ℕ, zero, suc, ◌+◌, ◌-◌, ◌*◌, ◌^◌, ◌≤◌}
 use native.Mathlib.Omega.{arith}
 use borrow.Author.Tests.{eqb-true, ne_eqb}
@@ -21,20 +21,20 @@ Plain l = Without (is 46) l 0 (length l)
 
 -- Where an answer is there, the text is plain.
 abbrev PlainIf : {A : Type 0} → List ℕ → Option A → Type 0
-PlainIf l none = Unit {0}
-PlainIf l (some x) = Plain l
+PlainIf l None = Unit {0}
+PlainIf l (Some x) = Plain l
 
 -- So it is with another byte in front,
 plain_cons : {A : Type 0} (b : ℕ) (l : List ℕ) (o : Option A) → eqb b 46 ≡ false → PlainIf l o → PlainIf (b ∷ l) o
-plain_cons b l none e h = tt
-plain_cons b l (some x) e h = go
+plain_cons b l None e h = tt
+plain_cons b l (Some x) e h = go
   where
     go : Plain (b ∷ l)
     go zero low high = e
     go (suc k) low high = h k (omega arith) (omega arith)
 
 -- and where the answer is kept by a test alone.
-plain_kept : {A : Type 0} (l : List ℕ) (x : A) (t : Bool) → Plain l → PlainIf l (cond t (some x) none)
+plain_kept : {A : Type 0} (l : List ℕ) (x : A) (t : Bool) → Plain l → PlainIf l (cond t (Some x) None)
 plain_kept l x true h = h
 plain_kept l x false h = tt
 
@@ -59,12 +59,12 @@ natural_plain [] = tt
 natural_plain (b ∷ l) = digits_plain 0 (b ∷ l)
 
 positive_plain : (l : List ℕ) (o : Option ℕ) → PlainIf l o → PlainIf l (positive o)
-positive_plain l none h = tt
-positive_plain l (some n) h = plain_kept l (pos n) (ltb n (2 ^ 63)) h
+positive_plain l None h = tt
+positive_plain l (Some n) h = plain_kept l (pos n) (ltb n (2 ^ 63)) h
 
 negative_plain : (l : List ℕ) (o : Option ℕ) → PlainIf l o → PlainIf l (negative o)
-negative_plain l none h = tt
-negative_plain l (some n) h = plain_kept l (neg_ℤ (pos n)) (leb n (2 ^ 63)) h
+negative_plain l None h = tt
+negative_plain l (Some n) h = plain_kept l (neg_ℤ (pos n)) (leb n (2 ^ 63)) h
 
 signed_plain : (b c : ℕ) (l : List ℕ) → eqb c 46 ≡ false → eqb b c ≡ true → PlainIf (b ∷ l) (natural l)
 signed_plain b c l other e = plain_cons b l (natural l) (rw (eqb-true b c e) other) (natural_plain l)
@@ -77,5 +77,5 @@ whole_says (b ∷ l) =
     (λ e. by_test (eqb b 43) (λ q. rw (e, q) (positive_plain (b ∷ l) (natural l) (signed_plain b 43 l refl q)))
     (λ q. rw (e, q) (positive_plain (b ∷ l) (natural (b ∷ l)) (natural_plain (b ∷ l)))))
 
-pub whole_plain : (l : List ℕ) {z : ℤ} → whole_number l ≡ some z → Plain l
+pub whole_plain : (l : List ℕ) {z : ℤ} → whole_number l ≡ Some z → Plain l
 whole_plain l e = rw e at (whole_says l)

@@ -1,8 +1,8 @@
 -- Quoted text: its bytes may stand between `=` and `;`, and it is at most twice as long as the text, with two quotes.
+use Rattle.std.specs.Prelude.{Option, None, Some}
 use mathlib.Core.Path.{◌≡◌, refl}
 use mathlib.Core.Bool.{true}
 use mathlib.Core.List.{List, [], ◌∷◌}
-use mathlib.Core.Option.{Option, none, some}
 use Prim.Native.Nat.{ℕ, ◌+◌, ◌*◌, ◌≤◌}
 use native.Mathlib.Omega.{arith}
 use lib.Dec.{eqb}
@@ -10,6 +10,7 @@ use lib.ListN.{length, length-append}
 use Rattle.scan.proofs.Cases.{by_test}
 use Rattle.text.specs.Escapes.{letter, letters, lookup_byte}
 use Rattle.text.specs.Text.{text_byte, value_byte, escape_with, escaped_body, quoted_text}
+use Rattle.text.proofs.Escaping.{at_most_twice}
 use Rattle.text.proofs.Everys.{Each}
 use Rattle.text.proofs.Parts.{each_nil, each_cons, each_append, each_head, each_tail}
 
@@ -18,8 +19,8 @@ IsValueByte b = value_byte b ≡ true
 
 -- A letter may stand in a value, and so may a byte of text that has none.
 abbrev LetterSays : ℕ → Option ℕ → Type 0
-LetterSays b none = text_byte b ≡ true → IsValueByte b
-LetterSays b (some c) = IsValueByte c
+LetterSays b None = text_byte b ≡ true → IsValueByte b
+LetterSays b (Some c) = IsValueByte c
 
 letter_says : (b : ℕ) → LetterSays b (letter b)
 unfolding letter letters lookup_byte value_byte text_byte
@@ -35,8 +36,8 @@ letter_says b =
 one_bytes : (b : ℕ) (o : Option ℕ) (rest : List ℕ) → LetterSays b o → text_byte b ≡ true → Each IsValueByte rest
     → Each IsValueByte (escape_with b o rest)
 unfolding value_byte
-one_bytes b none rest h t more = each_cons (h t) more
-one_bytes b (some c) rest h t more = each_cons refl (each_cons h more)
+one_bytes b None rest h t more = each_cons (h t) more
+one_bytes b (Some c) rest h t more = each_cons refl (each_cons h more)
 
 body_bytes : (t : List ℕ) → Each (λ b. text_byte b ≡ true) t → Each IsValueByte (escaped_body t)
 unfolding escaped_body
@@ -47,15 +48,6 @@ pub quoted_bytes : (t : List ℕ) → Each (λ b. text_byte b ≡ true) t → Ea
 unfolding quoted_text value_byte
 quoted_bytes t h = each_cons refl (each_append (body_bytes t h) (each_cons refl (each_nil IsValueByte)))
 
-one_length : (b : ℕ) (o : Option ℕ) (rest : List ℕ) → length (escape_with b o rest) ≤ 2 + length rest
-one_length b none rest = omega arith
-one_length b (some c) rest = omega arith
-
-body_length : (t : List ℕ) → length (escaped_body t) ≤ 2 * length t
-unfolding escaped_body
-body_length [] = omega arith
-body_length (b ∷ t) = omega (arith, one_length b (letter b) (escaped_body t), body_length t)
-
 pub quoted_length : (t : List ℕ) → length (quoted_text t) ≤ 2 * length t + 2
 unfolding quoted_text
-quoted_length t = omega (arith, length-append (escaped_body t) (34 ∷ []), body_length t)
+quoted_length t = omega (arith, length-append (escaped_body t) (34 ∷ []), at_most_twice t)

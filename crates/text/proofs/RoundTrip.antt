@@ -1,8 +1,8 @@
 -- "Text of 0 to 1,023 bytes from 1 to 127 comes back the same." It does for any list of bytes.
+use Rattle.std.specs.Prelude.{Option, None, Some}
 use mathlib.Core.Path.{◌≡◌, refl, sym, ap}
 use mathlib.Core.Bool.{false}
 use mathlib.Core.List.{List, [], ◌∷◌, ◌++◌}
-use mathlib.Core.Option.{Option, none, some}
 use Prim.Native.Nat.{ℕ, suc, ◌+◌, ◌-◌}
 use native.Mathlib.Omega.{arith}
 use borrow.Author.Tests.{eqb-true, lt-ltb}
@@ -20,8 +20,8 @@ use Rattle.text.specs.Whitespace.{whitespace}
 
 -- What the letter of a byte says: it means that byte and is no line break; a byte with none is no backslash and no line break.
 abbrev LetterSays : ℕ → Option ℕ → Type 0
-LetterSays b none = (eqb b 92 ≡ false) × (eqb b 10 ≡ false) × (eqb b 13 ≡ false)
-LetterSays b (some c) = (meaning c ≡ b) × (eqb c 10 ≡ false) × (eqb c 13 ≡ false)
+LetterSays b None = (eqb b 92 ≡ false) × (eqb b 10 ≡ false) × (eqb b 13 ≡ false)
+LetterSays b (Some c) = (meaning c ≡ b) × (eqb c 10 ≡ false) × (eqb c 13 ≡ false)
 
 letter_says : (b : ℕ) → LetterSays b (letter b)
 unfolding letter letters lookup_byte meaning meanings
@@ -39,8 +39,8 @@ one_back : (b : ℕ) (o : Option ℕ) → LetterSays b o → (rest t : List ℕ)
     → unescaped_after false (without_line_breaks rest) ≡ t
     → unescaped_after false (without_line_breaks (escape_with b o rest)) ≡ b ∷ t
 unfolding unescaped_after without_line_breaks
-one_back b none h rest t e = rw (h.1, h.2, h.0) (ap (λ (l : List ℕ). b ∷ l) e)
-one_back b (some c) h rest t e = rw (h.1, h.2) (cc (h.0, e))
+one_back b None h rest t e = rw (h.1, h.2, h.0) (ap (λ (l : List ℕ). b ∷ l) e)
+one_back b (Some c) h rest t e = rw (h.1, h.2) (cc (h.0, e))
 
 escapes_back : (t : List ℕ) → unescaped_after false (without_line_breaks (escaped_body t)) ≡ t
 unfolding escaped_body unescaped_after without_line_breaks

@@ -1,5 +1,6 @@
 -- Trimming: the steps of the loop from the end, and what stands in front.
-use mathlib.Core.Path.{◌≡◌, refl, ap}
+use Rattle.std.specs.Prelude.{Option, Some, None, MatchOption}
+use mathlib.Core.Path.{◌≡◌, refl, sym, ap, ◌∙◌}
 use mathlib.Core.Bool.{true, false}
 use mathlib.Core.List.{List, [], ◌∷◌}
 use Prim.Native.Nat.{ℕ, zero, suc, ◌+◌, ◌-◌, ◌≤◌, ◌<◌, zero-le, suc-le-suc}
@@ -10,7 +11,6 @@ use lib.ListN.{length}
 use Rattle.scan.specs.Byte.{byte}
 use Rattle.scan.specs.First.{First, Without}
 use Rattle.scan.specs.Search.{first_from}
-use Rattle.scan.specs.declared.Found.TheVariants.{At, Nothing}
 use Rattle.scan.specs.declared.Span.{Span}
 use Rattle.scan.proofs.Cases.{by_test, by_order, clash}
 use Rattle.scan.proofs.Searches.{search_says}
@@ -20,21 +20,30 @@ use Rattle.text.specs.Whitespace.{whitespace, visible}
 -- ---- From the end
 
 module _ (l : List ℕ) where
-  pub end_over : (n : ℕ) → 0 < n → whitespace (byte l (n - 1)) ≡ true → trimmed_end l n ≡ trimmed_end l (n - 1)
+  -- Whitespace alone is all over,
+  all_over : (n : ℕ) → ((k : ℕ) → k < n → whitespace (byte l k) ≡ true) → trimmed_end l n ≡ 0
   unfolding trimmed_end
-  end_over zero h e = absurd (omega arith)
-  end_over (suc n) h e =
-      let q : suc n - 1 ≡ n = omega arith in
-      let w : whitespace (byte l n) ≡ true = rw q at e in
-      rw (w, q)
+  all_over zero w = refl
+  all_over (suc n) w = rw (w n (omega arith)) (all_over n (λ k h. w k (omega arith)))
 
-  pub end_stays : (n : ℕ) → 0 < n → whitespace (byte l (n - 1)) ≡ false → trimmed_end l n ≡ n
+  -- and what stands behind the last byte that is none.
+  end_behind : (n i : ℕ) → i < n → whitespace (byte l i) ≡ false → ((k : ℕ) → i < k → k < n → whitespace (byte l k) ≡ true)
+      → trimmed_end l n ≡ i + 1
   unfolding trimmed_end
-  end_stays zero h e = absurd (omega arith)
-  end_stays (suc n) h e =
-      let q : suc n - 1 ≡ n = omega arith in
-      let w : whitespace (byte l n) ≡ false = rw q at e in
-      rw w
+  end_behind zero i h v w = absurd (omega arith)
+  end_behind (suc n) i h v w =
+      by_order n i (λ le. let q : i ≡ n = omega arith in rw (rw q at v) (omega arith))
+      (λ lt. rw (w n lt (omega arith)) (end_behind n i lt v (λ k a b. w k a (omega arith))))
+
+  -- The end by the place of the last visible byte, as a search from the back gives it.
+  abbrev pub LastVisible : Option ℕ → Type 0
+  LastVisible r =
+      MatchOption r ((k : ℕ) → k < length l → whitespace (byte l k) ≡ true)
+      (λ i. (i < length l) × (whitespace (byte l i) ≡ false) × ((k : ℕ) → i < k → k < length l → whitespace (byte l k) ≡ true))
+
+  pub end_by_last : (r : Option ℕ) (n : ℕ) → LastVisible r → MatchOption r (n ≡ 0) (λ i. n ≡ i + 1) → n ≡ trimmed_end l (length l)
+  end_by_last None n h e = e ∙ sym (all_over (length l) h)
+  end_by_last (Some i) n h e = e ∙ sym (end_behind (length l) i h.0 h.1 h.2)
 
   pub trimmed_end_inside : (n : ℕ) → trimmed_end l n ≤ n
   unfolding trimmed_end
@@ -74,14 +83,14 @@ leading_whole (b ∷ bs) w =
 -- ---- Both ends, by the first visible byte
 
 module _ (l : List ℕ) where
-  pub trimmed_empty : first_from visible l 0 ≡ Nothing → trimmed l ≡ record { offset = length l; length = 0 }
+  pub trimmed_empty : first_from visible l 0 ≡ None → trimmed l ≡ record { offset = length l; length = 0 }
   unfolding trimmed
   trimmed_empty e =
       let p : leading l ≡ length l = leading_whole l (rw e at (search_says visible l 0)) in
       let n : trimmed_end l (length l) - leading l ≡ 0 = omega (arith, trimmed_end_inside l (length l)) in
       λ i. record { offset = p i; length = n i }
 
-  pub trimmed_some : (d : ℕ) → first_from visible l 0 ≡ At d
+  pub trimmed_some : (d : ℕ) → first_from visible l 0 ≡ Some d
       → trimmed l ≡ record { offset = d; length = trimmed_end l (length l) - d }
   unfolding trimmed
   trimmed_some d e =
@@ -89,7 +98,7 @@ module _ (l : List ℕ) where
       let p : leading l ≡ d = leading_first l d f.inside f.here f.before in
       λ i. record { offset = p i; length = trimmed_end l (length l) - p i }
 
-  pub first_before_end : (d : ℕ) → first_from visible l 0 ≡ At d → d < trimmed_end l (length l)
+  pub first_before_end : (d : ℕ) → first_from visible l 0 ≡ Some d → d < trimmed_end l (length l)
   first_before_end d e =
       let f : First visible l 0 d = rw e at (search_says visible l 0) in
       end_after l (length l) d f.inside f.here

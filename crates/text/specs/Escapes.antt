@@ -1,6 +1,5 @@
 -- Escapes: a backslash and a character that stand for a character (000, table 3).
-use Rattle.std.specs.Prelude.{cond, List, [], ◌∷◌, ℕ, eqb}
-use Rattle.std.proofs.Math.Option.{Option, none, some, get_or}
+use Rattle.std.specs.Prelude.{cond, List, [], ◌∷◌, ℕ, eqb, Option, None, Some, unwrap_or}
 
 -- A byte, and the byte that a table gives it.
 pub record Pair : Type 0 where
@@ -8,8 +7,8 @@ pub record Pair : Type 0 where
   pub to : ℕ
 
 unfoldable pub lookup_byte : ℕ → List Pair → Option ℕ
-lookup_byte b [] = none
-lookup_byte b (p ∷ ps) = let r = lookup_byte b ps in cond (eqb b p.from) (some p.to) r
+lookup_byte b [] = None
+lookup_byte b (p ∷ ps) = let r = lookup_byte b ps in cond (eqb b p.from) (Some p.to) r
 
 -- "`\l` and `\n` give LF, `\r` CR, `\s` space, `\t` tab, `\v` VT, `\f` FF, `\(` `{`, `\)` `}`, `\:` `;`"
 unfoldable pub meanings : List Pair
@@ -22,7 +21,7 @@ meanings =
 -- What a backslash before a byte gives: "a backslash before another character that character".
 unfoldable pub meaning : ℕ → ℕ
 unfolding meanings lookup_byte
-meaning b = get_or (lookup_byte b meanings) b
+meaning b = unwrap_or (lookup_byte b meanings) b
 
 -- "with `\` as `\\`, LF `\l`, CR `\r`, `{` `\(`, `}` `\)`, `;` `\:`": the byte to write after the backslash.
 unfoldable pub letters : List Pair

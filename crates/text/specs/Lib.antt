@@ -1,4 +1,3 @@
-pub mod Answers
 pub mod Decimal
 pub mod Escapes
 pub mod Fold

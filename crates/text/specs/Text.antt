@@ -1,7 +1,6 @@
 -- Text out of a value, and text put into value form.
-use Rattle.std.specs.Prelude.{Bool, true, false, cond, not, ◌&&◌, ◌||◌, List, [], ◌∷◌, ◌++◌, ℕ, eqb, leb, length}
-use Rattle.std.proofs.Math.Option.{Option, none, some}
-use Rattle.scan.specs.Outcome.{Outcome, ok, refused, require, ◌>>◌}
+use Rattle.std.specs.Prelude.{Bool, true, false, cond, not, ◌&&◌, ◌||◌, List, [], ◌∷◌, ◌++◌, ℕ, eqb, leb, length, Option, None, Some, Ok}
+use Rattle.scan.specs.Outcome.{Outcome, refused, require, ◌>>◌}
 use Rattle.text.specs.Escapes.{meaning, letter}
 use Rattle.text.specs.Value.{value_of}
 
@@ -31,7 +30,7 @@ abbrev pub text_limit : ℕ
 text_limit = 1023
 
 unfoldable pub short_text : List ℕ → Outcome (List ℕ)
-short_text t = cond (leb (length t) text_limit) (ok t) (refused 25 0)
+short_text t = cond (leb (length t) text_limit) (Ok t) (refused 25 0)
 
 -- A byte that may stand between `=` and `;`: 1 to 127, no brace and no `;`.
 unfoldable pub value_byte : ℕ → Bool
@@ -45,8 +44,8 @@ unescaped l = require (every value_byte l) 24 0 >> short_text (text_of (value_of
 -- ---- Into value form
 
 abbrev pub escape_with : ℕ → Option ℕ → List ℕ → List ℕ
-escape_with b none rest = b ∷ rest
-escape_with b (some c) rest = 92 ∷ c ∷ rest
+escape_with b None rest = b ∷ rest
+escape_with b (Some c) rest = 92 ∷ c ∷ rest
 
 unfoldable pub escaped_body : List ℕ → List ℕ
 escaped_body [] = []
@@ -62,4 +61,4 @@ text_byte b = leb 1 b && leb b 127
 
 -- Escape (01: to value form): errors 24 for a byte that can't stand there, then 25.
 unfoldable pub escaped : List ℕ → Outcome (List ℕ)
-escaped t = require (every text_byte t) 24 0 >> (short_text t >> ok (quoted_text t))
+escaped t = require (every text_byte t) 24 0 >> (short_text t >> Ok (quoted_text t))

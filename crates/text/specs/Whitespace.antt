@@ -1,8 +1,6 @@
 -- Whitespace.
-use Rattle.std.specs.Prelude.{Bool, not, ◌||◌, ◌&&◌, List, ℕ, leb, eqb, length}
+use Rattle.std.specs.Prelude.{Bool, not, ◌||◌, ◌&&◌, List, ℕ, leb, eqb, length, Option, Some, None}
 use Rattle.scan.specs.Search.{first_from}
-use Rattle.scan.specs.declared.Found.{Found}
-use Rattle.scan.specs.declared.Found.TheVariants.{At, Nothing}
 
 -- 01's white: "White is space, tab, LF, CR, VT, FF." Space is 32; 9 to 13 are tab, LF, VT, FF and CR.
 unfoldable pub whitespace : ℕ → Bool
@@ -13,9 +11,9 @@ unfoldable pub visible : ℕ → Bool
 visible b = not (whitespace b)
 
 -- The offset that was found, or another.
-abbrev pub found_or : ℕ → Found → ℕ
-found_or other (At i) = i
-found_or other Nothing = other
+abbrev pub found_or : ℕ → Option ℕ → ℕ
+found_or other (Some i) = i
+found_or other None = other
 
 -- The first offset from `at` on whose byte is no whitespace, or the length where there is none.
 unfoldable pub visible_from : List ℕ → ℕ → ℕ

@@ -1,100 +1,81 @@
 // Text into value form, and text out of a value. The length is measured first, so that the buffer is untouched in every error.
 ghost use Rattle.std.specs.Prelude.{◌||◌, ◌≡◌, ◌≤◌, eqb, length};
-ghost use Rattle.std.proofs.Math.Option.{get_or};
+ghost use Rattle.std.specs.Iterator.{YieldsFirst, item_count};
 ghost use Rattle.scan.specs.Buffer.{over, length_written, buffer_after};
-ghost use Rattle.text.specs.Answers.{written_outcome};
 ghost use Rattle.text.specs.Escapes as spec;
 ghost use Rattle.text.specs.Text.{every, text_byte, value_byte, escaped_body, quoted_text, escaped, text_of, short_text, unescaped};
 
 use super::TEXT_LIMIT;
-use crate::{Written, buffer, value};
+use crate::{buffer, value};
+use scan::Error;
 
 // ---- Into value form
 
 // Whether a byte may stand in text: 1 to 127.
+#[tactic(auto, unfolding(crate::specs::Text::text_byte))]
 fn is_text_byte(b: u8) -> bool
     ensures { result ≡ text_byte b }
 {
-    if b < 1 {
-        return false;
-    }
-    b <= 127
+    (1..=127).contains(&b)
 }
 
 pub fn all_text_bytes(l: &[u8]) -> bool
     ensures { result ≡ every text_byte l.now }
 {
-    let mut i = 0;
-    while i < l.len() {
-        let b = l[i];
-        i += 1;
-        if !is_text_byte(b) {
-            return false;
-        }
-    }
-    true
+    l.iter().all(|b| is_text_byte(*b))
 }
 
-// The letter with which a byte is escaped; 0 if it is not.
-fn letter(b: u8) -> u8
-    ensures { result ≡ get_or (spec.letter b) 0 }
+// The letter with which a byte is escaped, if it is.
+#[tactic(auto, unfolding(crate::specs::Escapes::letter, crate::specs::Escapes::letters, crate::specs::Escapes::lookup_byte))]
+fn letter(b: u8) -> Option<u8>
+    ensures { result ≡ spec.letter b }
 {
     match b {
-        92 => 92,
-        10 => 108,
-        13 => 114,
-        123 => 40,
-        125 => 41,
-        59 => 58,
-        _ => 0,
+        b'\\' => Some(b'\\'),
+        b'\n' => Some(b'l'),
+        b'\r' => Some(b'r'),
+        b'{' => Some(b'('),
+        b'}' => Some(b')'),
+        b';' => Some(b':'),
+        _ => None,
     }
 }
 
-// How many bytes the escaped characters of text take.
+// How many bytes the escaped characters of text take: one each, and one more for each that has a letter.
 pub fn escaped_length(text: &[u8]) -> usize
     ensures { result ≡ length (escaped_body text.now) }
 {
-    let mut n: usize = 0;
-    let mut i = 0;
-    while i < text.len() {
-        let b = text[i];
-        i += 1;
-        if letter(b) == 0 {
-            n += 1;
-        } else {
-            n += 2;
-        }
-    }
-    n
+    text.len() + text.iter().filter(|b| letter(**b).is_some()).count()
 }
 
-// Writes the escaped characters between quotes.
+// Writes the escaped characters between quotes. `o` is a place in `out`, which moves by one or by two.
+#[tactic(auto, unfolding(crate::specs::Text::quoted_text))]
 pub fn write_quoted(text: &[u8], out: &mut [u8])
     requires { length (quoted_text text.now) ≤ length out.old }
     ensures { out.new ≡ over (quoted_text text.now) out.old }
 {
-    out[0] = 34;
-    let mut o: usize = 1;
-    let mut i = 0;
-    while i < text.len() {
-        let b = text[i];
-        i += 1;
-        let c = letter(b);
-        if c == 0 {
-            out[o] = b;
-            o += 1;
-        } else {
-            out[o] = 92;
-            out[o + 1] = c;
-            o += 2;
+    out[0] = b'"';
+    let mut o = 1;
+    for &b in text {
+        match letter(b) {
+            Some(c) => {
+                out[o] = b'\\';
+                out[o + 1] = c;
+                o += 2;
+            }
+            None => {
+                out[o] = b;
+                o += 1;
+            }
         }
     }
-    out[o] = 34;
+    out[o] = b'"';
 }
 
 // Text in value form, at the front of the buffer. Errors 24, then 25, then 22.
-pub fn escape(text: &[u8], out: &mut [u8]) -> Written
-    ensures result_value { written_outcome result ≡ length_written (escaped text.now) out.old }
+#[tactic(auto, using(crate::proofs::Escaping::quoted_length, crate::proofs::Escaping::at_most_twice), unfolding(scan::specs::Buffer::length_written, scan::specs::Buffer::buffer_after, crate::specs::Text::escaped, crate::specs::Text::short_text))]
+pub fn escape(text: &[u8], out: &mut [u8]) -> Result<usize, Error>
+    ensures result_value { result ≡ length_written (escaped text.now) out.old }
     ensures out_after { out.new ≡ buffer_after (escaped text.now) out.old }
 {
     if !all_text_bytes(text) {
@@ -108,121 +89,101 @@ pub fn escape(text: &[u8], out: &mut [u8]) -> Written
         return buffer::failure(22);
     }
     write_quoted(text, out);
-    Written::Length(n)
+    Ok(n)
 }
 
 // ---- From a value
 
 // Whether a byte may stand between `=` and `;`: 1 to 127, no brace and no `;`.
+#[tactic(auto, unfolding(crate::specs::Text::value_byte, crate::specs::Text::text_byte))]
 fn is_value_byte(b: u8) -> bool
     ensures { result ≡ value_byte b }
 {
-    if b < 1 {
-        return false;
-    }
-    if b > 127 {
-        return false;
-    }
-    if b == 123 {
-        return false;
-    }
-    if b == 125 {
-        return false;
-    }
-    b != 59
+    is_text_byte(b) && !matches!(b, b'{' | b'}' | b';')
 }
 
 fn all_value_bytes(l: &[u8]) -> bool
     ensures { result ≡ every value_byte l.now }
 {
-    let mut i = 0;
-    while i < l.len() {
-        let b = l[i];
-        i += 1;
-        if !is_value_byte(b) {
-            return false;
-        }
-    }
-    true
+    l.iter().all(|b| is_value_byte(*b))
 }
 
 fn is_line_break(b: u8) -> bool
     ensures { result ≡ (eqb b 10 || eqb b 13) }
 {
-    b == 10 || b == 13
+    matches!(b, b'\n' | b'\r')
 }
 
 // What a backslash before a byte gives.
+#[tactic(auto, unfolding(crate::specs::Escapes::meaning, crate::specs::Escapes::meanings, crate::specs::Escapes::lookup_byte))]
 fn meaning(b: u8) -> u8
     ensures { result ≡ spec.meaning b }
 {
     match b {
-        108 => 10,
-        110 => 10,
-        114 => 13,
-        115 => 32,
-        116 => 9,
-        118 => 11,
-        102 => 12,
-        40 => 123,
-        41 => 125,
-        58 => 59,
+        b'l' | b'n' => b'\n',
+        b'r' => b'\r',
+        b's' => b' ',
+        b't' => b'\t',
+        b'v' => b'\x0b',
+        b'f' => b'\x0c',
+        b'(' => b'{',
+        b')' => b'}',
+        b':' => b';',
         _ => b,
     }
 }
 
-// How many bytes the text of a value takes. `pending` says that a backslash stands before.
+// The bytes of the text of what is left of a value.
+#[derive(Drop)]
+struct Characters<'a>(&'a [u8]);
+
+impl Iterator for Characters<'_> {
+    type Item = u8;
+
+    ghost next_gives = { YieldsFirst (λ s. text_of s.0.now) };
+
+    ghost remaining = { item_count (λ s. text_of s.0.now) };
+
+    #[tactic(auto, unfolding(crate::specs::Text::text_of, crate::specs::Text::unescaped_after, crate::specs::Text::without_line_breaks))]
+    fn next(&mut self) -> Option<u8> {
+        let mut pending = false;
+        while let Some((&b, rest)) = self.0.split_first() {
+            self.0 = rest;
+            if is_line_break(b) {
+                continue;
+            }
+            if pending {
+                return Some(meaning(b));
+            }
+            if b != b'\\' {
+                return Some(b);
+            }
+            pending = true;
+        }
+        None
+    }
+}
+
+// How many bytes the text of a value takes.
 fn text_length(value: &[u8]) -> usize
     ensures { result ≡ length (text_of value.now) }
 {
-    let mut n: usize = 0;
-    let mut pending = false;
-    let mut i = 0;
-    while i < value.len() {
-        let b = value[i];
-        i += 1;
-        if !is_line_break(b) {
-            if pending {
-                n += 1;
-                pending = false;
-            } else if b == 92 {
-                pending = true;
-            } else {
-                n += 1;
-            }
-        }
-    }
-    n
+    Characters(value).count()
 }
 
 fn write_unescaped(value: &[u8], out: &mut [u8])
     requires { length (text_of value.now) ≤ length out.old }
     ensures { out.new ≡ over (text_of value.now) out.old }
 {
-    let mut o: usize = 0;
-    let mut pending = false;
-    let mut i = 0;
-    while i < value.len() {
-        let b = value[i];
-        i += 1;
-        if !is_line_break(b) {
-            if pending {
-                out[o] = meaning(b);
-                o += 1;
-                pending = false;
-            } else if b == 92 {
-                pending = true;
-            } else {
-                out[o] = b;
-                o += 1;
-            }
-        }
+    for (i, b) in Characters(value).enumerate() {
+        out[i] = b;
     }
 }
 
 // The text of a value that is trimmed and unquoted, at the front of the buffer. Errors 25, then 22.
-pub fn write_text(value: &[u8], out: &mut [u8]) -> Written
-    ensures result_value { written_outcome result ≡ length_written (short_text (text_of value.now)) out.old }
+#[tactic(auto, unfolding(scan::specs::Buffer::length_written, scan::specs::Buffer::buffer_after, crate::specs::Text::short_text))]
+pub fn write_text(value: &[u8], out: &mut [u8]) -> Result<usize, Error>
+    ensures result_value { result ≡ length_written (short_text (text_of value.now)) out.old }
     ensures out_after { out.new ≡ buffer_after (short_text (text_of value.now)) out.old }
 {
     let n = text_length(value);
@@ -233,19 +194,17 @@ pub fn write_text(value: &[u8], out: &mut [u8]) -> Written
         return buffer::failure(22);
     }
     write_unescaped(value, out);
-    Written::Length(n)
+    Ok(n)
 }
 
 // The text of the bytes between `=` and `;`, at the front of the buffer. Errors 24, then 25, then 22.
-pub fn unescape(value: &[u8], out: &mut [u8]) -> Written
-    ensures result_value { written_outcome result ≡ length_written (unescaped value.now) out.old }
+#[tactic(auto, using(crate::proofs::ValueSpans::part_value), unfolding(scan::specs::Buffer::length_written, scan::specs::Buffer::buffer_after, crate::specs::Text::unescaped))]
+pub fn unescape(value: &[u8], out: &mut [u8]) -> Result<usize, Error>
+    ensures result_value { result ≡ length_written (unescaped value.now) out.old }
     ensures out_after { out.new ≡ buffer_after (unescaped value.now) out.old }
 {
     if !all_value_bytes(value) {
         return buffer::failure(24);
     }
-    let p = value::value_span(value);
-    let at = p.offset;
-    let end = at + p.length;
-    write_text(&value[at..end], out)
+    write_text(scan::part(value, value::value_span(value)), out)
 }

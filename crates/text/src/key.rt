@@ -1,73 +1,51 @@
 // Keys: folded to small letters, compared and counted without whitespace.
-ghost use Rattle.std.specs.Prelude.{◌≡◌, length};
+ghost use Rattle.std.specs.Prelude.{◌≡◌, length, drop};
+ghost use Rattle.std.specs.Iterator.{YieldsFirst, item_count};
 ghost use Rattle.scan.specs.Byte.{same};
 ghost use Rattle.text.specs.Fold.{fold};
 ghost use Rattle.text.specs.Key.{key_of};
 
 use super::whitespace::find_visible;
-use scan::Found;
 
-// A byte, folded to a small letter: the entry of the list of 128. It is reckoned, since a list that is read by index would be copied
-// at each call.
+// A byte, folded to a small letter: the entry of the list of 128, which is what std's fold of ASCII gives.
+#[tactic(auto, using(crate::proofs::Folds::fold_lower))]
 pub fn fold_byte(b: u8) -> u8
     ensures { result ≡ fold b }
 {
-    if b < 65 {
-        return b;
+    b.to_ascii_lowercase()
+}
+
+// The characters of a key that are left from `at` on: its bytes without whitespace, folded.
+#[derive(Drop)]
+struct Key<'a> {
+    bytes: &'a [u8],
+    at: usize,
+}
+
+impl Iterator for Key<'_> {
+    type Item = u8;
+
+    ghost next_gives = { YieldsFirst (λ s. key_of (drop s.at s.bytes.now)) };
+
+    ghost remaining = { item_count (λ s. key_of (drop s.at s.bytes.now)) };
+
+    fn next(&mut self) -> Option<u8> {
+        let i = find_visible(self.bytes, self.at)?;
+        self.at = i + 1;
+        Some(fold_byte(self.bytes[i]))
     }
-    if 90 < b {
-        return b;
-    }
-    b + 32
 }
 
 // Whether two keys are the same once stripped of whitespace and folded.
 pub fn same_key(a: &[u8], b: &[u8]) -> bool
     ensures { result ≡ same (key_of a.now) (key_of b.now) }
 {
-    let mut i = 0;
-    let mut j = 0;
-    loop {
-        match find_visible(a, i) {
-            Found::Nothing => match find_visible(b, j) {
-                Found::Nothing => {
-                    return true;
-                }
-                Found::At(_) => {
-                    return false;
-                }
-            },
-            Found::At(x) => match find_visible(b, j) {
-                Found::Nothing => {
-                    return false;
-                }
-                Found::At(y) => {
-                    if fold_byte(a[x]) != fold_byte(b[y]) {
-                        return false;
-                    }
-                    i = x + 1;
-                    j = y + 1;
-                }
-            },
-        }
-    }
+    Key { bytes: a, at: 0 }.eq(Key { bytes: b, at: 0 })
 }
 
 // How many characters a key has without its whitespace.
 pub fn key_length(k: &[u8]) -> usize
     ensures { result ≡ length (key_of k.now) }
 {
-    let mut i = 0;
-    let mut n = 0;
-    loop {
-        match find_visible(k, i) {
-            Found::Nothing => {
-                return n;
-            }
-            Found::At(x) => {
-                i = x + 1;
-                n += 1;
-            }
-        }
-    }
+    Key { bytes: k, at: 0 }.count()
 }

@@ -3,22 +3,15 @@ ghost use Rattle.std.specs.Prelude.{◌≡◌, ◌+◌, ◌≤◌, length};
 ghost use Rattle.text.specs.Value.{trimmed_end, trimmed, without_opening_quote, without_closing_quote, value_span};
 
 use super::whitespace::{find_visible, is_whitespace};
-use scan::{Found, Span};
+use scan::Span;
 
 // How many bytes are left without the whitespace at the end.
 fn trimmed_end(l: &[u8]) -> usize
     ensures { result ≡ trimmed_end l.now (length l.now) }
 {
-    let mut n = l.len();
-    while 0 < n {
-        let k = n - 1;
-        if is_whitespace(l[k]) {
-            n = k;
-        } else {
-            return n;
-        }
-    }
-    0
+    l.iter()
+        .rposition(|&b| !is_whitespace(b))
+        .map_or(0, |last| last + 1)
 }
 
 // What is left without the whitespace at both ends.
@@ -26,57 +19,46 @@ pub fn trimmed_span(l: &[u8]) -> Span
     ensures { result ≡ trimmed l.now }
 {
     match find_visible(l, 0) {
-        Found::Nothing => Span {
+        None => Span {
             offset: l.len(),
             length: 0,
         },
-        Found::At(d) => {
-            let e = trimmed_end(l);
-            let n = e - d;
-            Span {
-                offset: d,
-                length: n,
-            }
-        }
+        Some(offset) => Span {
+            offset,
+            length: trimmed_end(l) - offset,
+        },
     }
 }
 
 // A span inside the bytes, without the `"` that it may start with.
+#[tactic(auto, unfolding(crate::specs::Value::without_opening_quote))]
 fn without_opening_quote(l: &[u8], p: Span) -> Span
     requires { p.offset + p.length ≤ length l.now }
     ensures { result ≡ without_opening_quote l.now p }
 {
-    let at = p.offset;
-    let n = p.length;
-    if n == 0 {
-        return p;
-    }
-    if l[at] != 34 {
-        return p;
-    }
-    Span {
-        offset: at + 1,
-        length: n - 1,
+    if p.length > 0 && l[p.offset] == b'"' {
+        Span {
+            offset: p.offset + 1,
+            length: p.length - 1,
+        }
+    } else {
+        p
     }
 }
 
 // A span inside the bytes, without the `"` that it may end with.
+#[tactic(auto, unfolding(crate::specs::Value::without_closing_quote))]
 fn without_closing_quote(l: &[u8], p: Span) -> Span
     requires { p.offset + p.length ≤ length l.now }
     ensures { result ≡ without_closing_quote l.now p }
 {
-    let at = p.offset;
-    let n = p.length;
-    if n == 0 {
-        return p;
-    }
-    let last = at + n - 1;
-    if l[last] != 34 {
-        return p;
-    }
-    Span {
-        offset: at,
-        length: n - 1,
+    if p.length > 0 && l[p.offset + p.length - 1] == b'"' {
+        Span {
+            length: p.length - 1,
+            ..p
+        }
+    } else {
+        p
     }
 }
 
@@ -84,7 +66,5 @@ fn without_closing_quote(l: &[u8], p: Span) -> Span
 pub fn value_span(l: &[u8]) -> Span
     ensures { result ≡ value_span l.now }
 {
-    let t = trimmed_span(l);
-    let p = without_opening_quote(l, t);
-    without_closing_quote(l, p)
+    without_closing_quote(l, without_opening_quote(l, trimmed_span(l)))
 }

@@ -1,5 +1,7 @@
 -- The checks of the writer, in their order.
-use mathlib.Core.Path.{◌≡◌, refl, sym, ◌∙◌}
+use Rattle.std.specs.Prelude.{Ok, Err}
+use Rattle.scan.specs.Outcome.{Outcome, refused, require, ◌>>◌}
+use mathlib.Core.Path.{◌≡◌, refl, sym, ap, ◌∙◌}
 use mathlib.Core.Bool.{Bool, true, false, ◌&&◌, false≢true}
 use mathlib.Core.List.{List}
 use Prim.Native.Nat.{ℕ, ◌*◌, ◌≤◌, ◌<◌}
@@ -7,24 +9,16 @@ use native.Mathlib.Omega.{arith}
 use borrow.Author.Tests.{le-leb, lt-leb, leb-true, leb-false, eqb-true}
 use lib.Dec.{leb}
 use lib.ListN.{length}
-use Rattle.scan.specs.Outcome.{Outcome, ok, refused, require, ◌>>◌}
-use Rattle.scan.proofs.Cases.{by_test, both_true}
-use Rattle.scan.proofs.Decides.{decided, decides_and, leb_decides}
+use Rattle.scan.proofs.Cases.{by_test, both_true, ok-failed}
 use Rattle.text.specs.Text.{short_text}
 use Rattle.raster.specs.Position.{product}
 use Rattle.frame.specs.File.{frame_dims, frame_type, frame_allowed, file_of, written_file}
 use Rattle.blocks.specs.Limits.{file_limit}
 use Rattle.text.specs.Text.{text_limit}
 use Rattle.frame.specs.declared.Frame.{Frame}
-use Rattle.writer.specs.Parts.{frame_fits, arguments_allowed, short_titled, limited}
-
--- Two tests, one after the other.
-module _ (a b : Bool) where
-  pub first_fails : a ≡ false → false ≡ (a && b)
-  first_fails e = rw e
-
-  pub second_decides : a ≡ true → (r : Bool) → r ≡ b → r ≡ (a && b)
-  second_decides e r h = rw e h
+use Rattle.writer.specs.Parts.{frame_fits, arguments_allowed, short_titled, limited, length_of}
+use Rattle.scan.specs.Buffer.{length_written, buffer_after}
+use Rattle.scan.specs.declared.Error.{Error}
 
 -- ---- The arguments
 
@@ -56,9 +50,6 @@ module _ (f : Frame) (title pixels : List ℕ) where
     fits : frame_fits f pixels ≡ true
     fits = (both_true (frame_fits f pixels) _ e).0
 
-    pub frame_passes : frame_allowed f ≡ true
-    frame_passes = (both_true (frame_allowed f) _ fits).0
-
     pub length_passes : length pixels ≡ product (frame_dims f) * (frame_type f).width
     length_passes = eqb-true _ _ (both_true (frame_allowed f) _ fits).1
 
@@ -77,7 +68,7 @@ module _ (title file : List ℕ) where
   unfolding short_titled short_text
   title_long h = rw (lt-leb (length title) text_limit h)
 
-  pub title_short : length title ≤ text_limit → short_titled title file ≡ ok file
+  pub title_short : length title ≤ text_limit → short_titled title file ≡ Ok file
   unfolding short_titled short_text
   title_short h = rw (le-leb (length title) text_limit h)
 
@@ -88,5 +79,24 @@ part_over a b whole e h k =
     (λ q. let l = leb-true whole file_limit q in absurd (false≢true (sym e ∙ rw (le-leb a file_limit (omega arith), le-leb b file_limit (omega arith)))))
     (λ q. leb-false whole file_limit q)
 
-pub parts_in : (a b : ℕ) → (leb a file_limit && leb b file_limit) ≡ true → (a ≤ file_limit) × (b ≤ file_limit)
-parts_in a b e = decided (decides_and (leb_decides a file_limit) (leb_decides b file_limit)) e
+-- ---- How long the file is
+
+pub length_refused : {code : ℕ} {r : Outcome ℕ} {o : Outcome (List ℕ)} → r ≡ refused code 0 → o ≡ refused code 0 → r ≡ length_of o
+unfolding length_of
+length_refused e h = e ∙ sym (ap length_of h)
+
+pub length_is : {n : ℕ} {file : List ℕ} {o : Outcome (List ℕ)} → n ≡ length file → o ≡ Ok file → Ok n ≡ length_of o
+unfolding length_of
+length_is e h = ap Ok e ∙ sym (ap length_of h)
+
+-- Where there is no length there is no file,
+pub failed_written : (o : Outcome (List ℕ)) (d : List ℕ) {e : Error} → length_of o ≡ Err e → (Err e ≡ length_written o d) × (d ≡ buffer_after o d)
+unfolding length_of length_written buffer_after
+failed_written (Ok file) d h = absurd (ok-failed h)
+failed_written (Err x) d h = (sym h, refl)
+
+-- and where there is one, there is a file of that length.
+pub file_written : (o : Outcome (List ℕ)) {n : ℕ} → length_of o ≡ Ok n → (file : List ℕ) × ((o ≡ Ok file) × (n ≡ length file))
+unfolding length_of
+file_written (Ok file) h = (file, (refl, sym (cc h)))
+file_written (Err x) h = absurd (ok-failed (sym h))

@@ -1,13 +1,13 @@
 -- The file that the writer makes, and how long it is.
-use mathlib.Core.Path.{◌≡◌, refl, ap}
+use Rattle.std.specs.Prelude.{Option, None, Some}
+use mathlib.Core.Path.{◌≡◌, ap, ◌∙◌}
 use mathlib.Core.List.{List, [], ◌∷◌, ◌++◌}
-use mathlib.Core.Option.{Option, none, some}
 use Prim.Native.Nat.{ℕ, suc, ◌+◌, ◌≤◌}
 use native.Mathlib.Omega.{arith}
 use lib.ListN.{length, length-append}
 use Rattle.text.specs.Text.{escape_with, escaped_body, quoted_text}
 use Rattle.text.specs.Escapes.{letter}
-use Rattle.rendering.specs.Render.{padding, rendered_header}
+use Rattle.rendering.specs.Render.{rendered_header}
 use Rattle.frame.specs.File.{file_data, file_of, keywords_of}
 use Rattle.frame.specs.declared.Frame.{Frame}
 use Rattle.writer.specs.Front.{front, titled, closed}
@@ -15,8 +15,8 @@ use Rattle.writer.proofs.HeaderLaws.{titled-length, closed-length, header_is}
 
 -- Escaped text is no shorter.
 escape_least : (b : ℕ) (o : Option ℕ) (t r : List ℕ) → length t ≤ length r → suc (length t) ≤ length (escape_with b o r)
-escape_least b none t r h = omega arith
-escape_least b (some c) t r h = omega arith
+escape_least b None t r h = omega arith
+escape_least b (Some c) t r h = omega arith
 
 body_least : (t : List ℕ) → length t ≤ length (escaped_body t)
 unfolding escaped_body
@@ -31,19 +31,12 @@ module _ (f : Frame) (title pixels : List ℕ) where
   unfolding file_of
   file_is = ap (λ (l : List ℕ). l ++ file_data f pixels) (header_is f title pixels)
 
-  pub file_long : (n size : ℕ) → n ≡ length first_part → size ≡ length (file_data f pixels)
-      → n + length (quoted_text title) + 8 + padding (n + length (quoted_text title) + 8) + size ≡ length (file_of f title pixels)
-  file_long n size e q =
-      let whole = titled first_part title in
-      let same : n + length (quoted_text title) + 8 ≡ length whole + 4 = omega (arith, titled-length first_part title) in
-      omega (
-        arith,
-        same,
-        ap padding same,
-        ap length file_is,
-        length-append (closed whole) (file_data f pixels),
-        closed-length whole,
-      )
+  module _ {size : ℕ} (q : size ≡ length (file_data f pixels)) where
+    pub file_made : closed (titled (front f size) title) ++ file_data f pixels ≡ file_of f title pixels
+    file_made = ap (λ (k : ℕ). closed (titled (front f k) title) ++ file_data f pixels) q ∙ file_is
+
+    pub total_length : {n : ℕ} → n ≡ length (closed (titled (front f size) title)) → n + size ≡ length (file_of f title pixels)
+    total_length e = omega (arith, e, q, ap length file_made, length-append (closed (titled (front f size) title)) (file_data f pixels))
 
   pub data_within : length (file_data f pixels) ≤ length (file_of f title pixels)
   unfolding file_of
@@ -52,4 +45,13 @@ module _ (f : Frame) (title pixels : List ℕ) where
   pub title_within : length title ≤ length (file_of f title pixels)
   unfolding quoted_text
   title_within =
-      omega (arith, file_long (length first_part) (length (file_data f pixels)) refl refl, body_least title, length-append (escaped_body title) (34 ∷ []))
+      let whole = titled first_part title in
+      omega (
+        arith,
+        ap length file_is,
+        length-append (closed whole) (file_data f pixels),
+        closed-length whole,
+        titled-length first_part title,
+        body_least title,
+        length-append (escaped_body title) (34 ∷ []),
+      )

@@ -1,10 +1,10 @@
 -- The header that the writer makes, piece by piece.
 use mathlib.Core.Path.{◌≡◌, sym, ap, ◌∙◌}
 use mathlib.Core.List.{List, [], ◌∷◌, ◌++◌, append_assoc, append-nil}
-use Prim.Native.Nat.{ℕ, ◌+◌, ◌-◌}
+use Prim.Native.Nat.{ℕ, ◌+◌, ◌-◌, ◌≤◌}
 use native.Mathlib.Omega.{arith}
 use lib.IntN.{ℤ, pos}
-use lib.ListN.{length, take, get_or, replicate, length-append, length-replicate}
+use lib.ListN.{length, get_or, replicate, length-append, length-replicate}
 use Rattle.scan.specs.Byte.{ascii}
 use Rattle.text.specs.Decimal.{decimal}
 use Rattle.text.specs.Text.{quoted_text}
@@ -14,16 +14,15 @@ use Rattle.frame.specs.File.{frame_dims, frame_type, file_data, keywords_of}
 use Rattle.writer.specs.Front.{leading, front, titled, closed}
 use Rattle.rendering.specs.Render.{keyword, dim_keywords, Keyword, line, lines, padding, opening, rendered_header}
 use Rattle.rendering.proofs.LineLaws.{lines-append}
-use Rattle.frame.specs.Shape.{shape_dims, IsShape}
+use Rattle.rendering.proofs.Padding.{padding_multiple}
 use Rattle.frame.specs.declared.Frame.{Frame}
-use Rattle.frame.specs.declared.dims.Shape.{Shape}
 
 five : (a b c d e g : List ℕ) → ((((a ++ b) ++ c) ++ d) ++ e) ++ g ≡ a ++ (b ++ (c ++ (d ++ (e ++ g))))
 five a b c d e g =
     append_assoc (((a ++ b) ++ c) ++ d) e g ∙ append_assoc ((a ++ b) ++ c) d (e ++ g) ∙ append_assoc (a ++ b) c (d ++ (e ++ g))
     ∙ append_assoc a b (c ++ (d ++ (e ++ g)))
 
-module _ (f : Frame) (s : Shape) (size : ℕ) (shape : IsShape f s) {a m : ℤ} (same : a ≡ f.sequence) (kept : m ≡ f.memory) where
+module _ (f : Frame) (size : ℕ) {a m : ℤ} (same : a ≡ f.sequence) (kept : m ≡ f.memory) where
   abbrev last : Keyword
   last = keyword (ascii "DataRasterConfiguration") (decimal (pos f.configuration))
 
@@ -31,19 +30,18 @@ module _ (f : Frame) (s : Shape) (size : ℕ) (shape : IsShape f s) {a m : ℤ} 
       ++ line (keyword (ascii "EDF_BinarySize") (decimal (pos size))))
       ++ line (keyword (ascii "ByteOrder") (get_or order_words (f.byteorder - 1) [])))
       ++ line (keyword (ascii "DataType") (frame_type f).word))
-      ++ lines (dim_keywords 1 (take f.n (shape_dims s)))) ++ line last ≡ lines (leading f size)
+      ++ lines (dim_keywords 1 (frame_dims f))) ++ line last ≡ lines (leading f size)
   unfolding leading lines
   leading_is =
-      five (line (keyword (ascii "EDF_DataBlockID") (identity_text a f.instance m))) _ _ _ (lines (dim_keywords 1 (take f.n (shape_dims s)))) (line last)
+      five (line (keyword (ascii "EDF_DataBlockID") (identity_text a f.instance m))) _ _ _ (lines (dim_keywords 1 (frame_dims f))) (line last)
       ∙ (λ i. line (keyword (ascii "EDF_DataBlockID") (identity_text (same i) f.instance (kept i)))
       ++ (line (keyword (ascii "EDF_BinarySize") (decimal (pos size)))
       ++ (line (keyword (ascii "ByteOrder") (get_or order_words (f.byteorder - 1) []))
       ++ (line (keyword (ascii "DataType") (frame_type f).word) ++ rest i))))
     where
-      rest : lines (dim_keywords 1 (take f.n (shape_dims s))) ++ line last ≡ lines (dim_keywords 1 (frame_dims f) ++ (last ∷ []))
+      rest : lines (dim_keywords 1 (frame_dims f)) ++ line last ≡ lines (dim_keywords 1 (frame_dims f) ++ (last ∷ []))
       rest =
-          ap (λ (ds : List ℕ). lines (dim_keywords 1 ds) ++ line last) shape.dims
-          ∙ ap (λ (l : List ℕ). lines (dim_keywords 1 (frame_dims f)) ++ l) (sym (append-nil (line last)))
+          ap (λ (l : List ℕ). lines (dim_keywords 1 (frame_dims f)) ++ l) (sym (append-nil (line last)))
           ∙ sym (lines-append (dim_keywords 1 (frame_dims f)) (last ∷ []))
 
 pub front_is : (f : Frame) (size : ℕ) → (ascii "{\r\n" ++ lines (leading f size)) ++ ascii "Title = " ≡ front f size
@@ -67,6 +65,10 @@ module _ (l : List ℕ) where
   pub closed-length : length (closed l) ≡ length l + padding (length l + 4) + 4
   unfolding closed
   closed-length = simp (length-append, length-replicate) (omega arith)
+
+  -- No header is shorter than 512 bytes.
+  pub closed_least : 512 ≤ length (closed l)
+  closed_least = let m = padding_multiple (length l + 4) in omega (arith, m.1, closed-length)
 
 -- ---- The header of a file
 

@@ -1,21 +1,18 @@
 // The header of a written file.
-ghost use Rattle.std.specs.Prelude.{◌≡◌, true, ◌+◌, ◌≤◌, length};
-ghost use Rattle.text.specs.Text.{quoted_text};
-ghost use Rattle.append.specs.Append.{Appended};
+ghost use Rattle.std.specs.Prelude.{◌≡◌, true, ◌≤◌, length};
+ghost use Rattle.text.specs.Text.{quoted_text, text_limit};
+ghost use Rattle.append.specs.Append.{HasRoom, AppendedWithin};
 ghost use Rattle.frame.specs.File.{frame_allowed};
 ghost use Rattle.blocks.specs.Limits.{file_limit};
-ghost use Rattle.text.specs.Text.{text_limit};
 ghost use Rattle.writer.specs.Front.{leading, front, titled, closed, leading_most, front_most};
 ghost use Rattle.rendering.specs.Render.{lines};
-ghost use Rattle.frame.specs.Shape.{IsShape};
 
-use append::bytes::{DECIMAL_MOST, append, append_repeated};
+use append::appender::{Appender, DECIMAL_MOST};
 use append::words::{IDENTITY_MOST, ORDER_MOST, TYPE_MOST};
 use frame::Frame;
-use frame::dims::Shape;
 use rendering::filling::filling;
 use rendering::lines::{dim_lines, identity_line, number_line, order_line, type_line};
-use text::escape::write_quoted;
+use text::escape::{escaped_length, write_quoted};
 
 // How many bytes the lines before the title take at most, and the front of a header (`specs/Front`). A line has 7 bytes beside its
 // key and its value.
@@ -29,49 +26,49 @@ const LEADING_MOST: usize = (15 + IDENTITY_MOST + 7)
 pub const FRONT_MOST: usize = 3 + LEADING_MOST + 8;
 
 // The lines before the title.
-fn put_leading(f: Frame, s: Shape, size: usize, out: &mut [u8], at: usize) -> usize
-    requires f_value { (frame_allowed f ≡ true) × IsShape f s × (size ≤ file_limit) }
-    requires leading_most_in_bounds { at + leading_most ≤ length out.old }
-    ensures appended { Appended (lines (leading f size)) at out.old out.new result }
-    ensures upper_bound { result ≤ at + leading_most }
+fn put_leading(f: Frame, size: usize, out: &mut Appender<'_>)
+    requires f_value { (frame_allowed f ≡ true) × (size ≤ file_limit) }
+    requires room { HasRoom leading_most out.old }
+    ensures { AppendedWithin leading_most (lines (leading f size)) out.old out.new }
 {
-    let a = identity_line(f.sequence, f.instance, f.memory, out, at);
-    let b = number_line(b"EDF_BinarySize", size, out, a);
-    let c = order_line(f.byteorder, out, b);
-    let d = type_line(f.datatype, out, c);
-    let e = dim_lines(f.n, s.dim1, s.dim2, s.dim3, out, d);
-    number_line(b"DataRasterConfiguration", f.configuration as usize, out, e)
+    identity_line(f.sequence, f.instance, f.memory, out);
+    number_line(b"EDF_BinarySize", size, out);
+    order_line(f.byteorder, out);
+    type_line(f.datatype, out);
+    dim_lines(&[f.dim1, f.dim2, f.dim3][..f.n as usize], out);
+    number_line(b"DataRasterConfiguration", f.configuration as usize, out);
 }
 
 // The header up to the value of Title.
-pub fn put_front(f: Frame, s: Shape, size: usize, out: &mut [u8]) -> usize
-    requires f_value { (frame_allowed f ≡ true) × IsShape f s × (size ≤ file_limit) }
-    requires front_most_in_bounds { front_most ≤ length out.old }
-    ensures appended { Appended (front f size) 0 out.old out.new result }
-    ensures upper_bound { result ≤ front_most }
+pub fn put_front(f: Frame, size: usize, out: &mut Appender<'_>)
+    requires f_value { (frame_allowed f ≡ true) × (size ≤ file_limit) }
+    requires room { HasRoom front_most out.old }
+    ensures { AppendedWithin front_most (front f size) out.old out.new }
 {
-    let a = append(b"{\r\n", out, 0);
-    let b = put_leading(f, s, size, out, a);
-    append(b"Title = ", out, b)
+    out.append(b"{\r\n");
+    put_leading(f, size, out);
+    out.append(b"Title = ");
 }
 
-fn put_quoted(title: &[u8], out: &mut [u8], at: usize) -> usize
-    requires { (length title.now ≤ text_limit) × (at + length (quoted_text title.now) ≤ length out.old) }
-    ensures { Appended (quoted_text title.now) at out.old out.new result }
+fn put_quoted(title: &[u8], out: &mut Appender<'_>)
+    requires short { length title.now ≤ text_limit }
+    requires room { HasRoom (length (quoted_text title.now)) out.old }
+    ensures { AppendedWithin (length (quoted_text title.now)) (quoted_text title.now) out.old out.new }
 {
-    write_quoted(title, &mut out[at..]);
-    at + text::escape::escaped_length(title) + 2
+    write_quoted(title, &mut out.bytes[out.at..]);
+    out.at += escaped_length(title) + 2;
 }
 
-// The whole header, of its front and the title.
-pub fn put_header(first: &[u8], title: &[u8], out: &mut [u8]) -> usize
-    requires first_len_bound { (length first.now ≤ front_most) × (length title.now ≤ text_limit) }
-    requires title_in_bounds { length (closed (titled first.now title.now)) ≤ length out.old }
-    ensures { Appended (closed (titled first.now title.now)) 0 out.old out.new result }
+// The whole header, at the front of a file, for data of a size.
+pub fn put_header(f: Frame, size: usize, title: &[u8], out: &mut Appender<'_>)
+    requires f_value { (frame_allowed f ≡ true) × (size ≤ file_limit) × (length title.now ≤ text_limit) }
+    requires at_front { out.old.at ≡ 0 }
+    requires room { HasRoom (length (closed (titled (front f size) title.now))) out.old }
+    ensures { AppendedWithin (length (closed (titled (front f size) title.now))) (closed (titled (front f size) title.now)) out.old out.new }
 {
-    let a = append(first, out, 0);
-    let b = put_quoted(title, out, a);
-    let c = append(b" ;\r\n", out, b);
-    let d = append_repeated(32, filling(c + 4), out, c);
-    append(b"\r\n}\n", out, d)
+    put_front(f, size, out);
+    put_quoted(title, out);
+    out.append(b" ;\r\n");
+    out.append_repeated(b' ', filling(out.at + 4));
+    out.append(b"\r\n}\n");
 }

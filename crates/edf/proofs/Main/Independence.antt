@@ -2,15 +2,14 @@
 -- and `AloneBlock` say of which files (crates/locality/specs/Blocks), `SameBlock`, `MovedBlock` and `MovedPlainBlock` of which
 -- blocks of two files (crates/keyword/specs/Shared), `SameAnswers`, `MovedAnswersFrom` and `MovedAnswers` what each call answers
 -- (specs/Independence).
+use Rattle.std.specs.Prelude.{None, Some, ℕ, Ok, slice_get}
+use Rattle.scan.specs.Outcome.{Outcome}
 use mathlib.Core.Path.{◌≡◌, subst}
 use mathlib.Core.List.{List, [], ◌∷◌, ◌++◌}
-use mathlib.Core.Option.{none, some}
 use Prim.Native.Nat.{ℕ, ◌+◌, ◌≤◌}
 use native.Mathlib.Omega.{arith}
-use lib.ListN.{length, take, drop, get_elem?}
+use lib.ListN.{length, take, drop}
 -- ---- The call that opens a file
-use Rattle.blocks.specs.declared.Opened.{Opened}
-use Rattle.blocks.specs.declared.Opened.TheVariants.{Blocks}
 use Rattle.blocks.specs.declared.Row.{Row}
 use Rattle.edf.specs.Calls.{Open}
 use Rattle.edf.specs.Opening.{Allowed}
@@ -33,7 +32,7 @@ pub use Rattle.locality.proofs.Main.{kind_2_alone, kind_1_alone}
 
 -- ---- A file that `open` accepts, with the rows that it left in the table
 
-pub opened_accepted : {s : List ℕ} {before after : List Row} {n : ℕ} → Allowed s (length before) → Open s before (Blocks n) after
+pub opened_accepted : {s : List ℕ} {before after : List Row} {n : ℕ} → Allowed s (length before) → Open s before (Ok n) after
     → AcceptedFile s (take n after)
 opened_accepted = laws.opened_accepted
 
@@ -60,16 +59,16 @@ module _ (s t : List ℕ) {rows others : List Row} (j : Joinable s t rows others
   pub joined_accepted : AcceptedFile (s ++ t) (joined_rows (length s) rows others)
   joined_accepted = locality.files_joined s t j
 
-  pub joined_opens : {table left : List Row} {r : Opened} → block_limit ≤ length table → Open (s ++ t) table r left
-      → (r ≡ Blocks (length rows + length others)) × (left ≡ joined_rows (length s) rows others ++ drop (length rows + length others) table)
+  pub joined_opens : {table left : List Row} {r : Outcome ℕ} → block_limit ≤ length table → Open (s ++ t) table r left
+      → (r ≡ Ok (length rows + length others)) × (left ≡ joined_rows (length s) rows others ++ drop (length rows + length others) table)
   joined_opens h c =
       rw (joined_count (length s) rows others) at (opens_rows joined_accepted.partition joined_accepted.small h c)
 
   -- A block of either file keeps its answers.
-  pub joined_first : (k : ℕ) {row : Row} → get_elem? rows k ≡ some row → SameAnswers s (s ++ t) k k
+  pub joined_first : (k : ℕ) {row : Row} → slice_get rows k ≡ Some row → SameAnswers s (s ++ t) k k
   joined_first k at = same_block (first_shared s t j k at)
 
-  pub joined-second : (k : ℕ) {row : Row} → get_elem? others k ≡ some row → MovedAnswers (length s) t (s ++ t) k (length rows + k)
+  pub joined-second : (k : ℕ) {row : Row} → slice_get others k ≡ Some row → MovedAnswers (length s) t (s ++ t) k (length rows + k)
   joined-second k at = moved_plain_block (length s) (second_shared s t j k at)
 
 -- ---- A block as a file of its own
@@ -79,8 +78,8 @@ pub alone_answers : {s : List ℕ} {k : ℕ} {row : Row} → AloneBlock s k row 
 alone_answers {row = row} a = moved_plain_block row.start (alone_shared a)
 
 -- It is one where `open` says so of its bytes: one block, with the same row but for its start.
-pub opened_alone : {s : List ℕ} {rows : List Row} → AcceptedFile s rows → general_header s rows ≡ none → (k : ℕ) {row : Row} → get_elem? rows k ≡ some row
-    → {before after : List Row} → block_limit ≤ length before → Open (block_bytes s row) before (Blocks 1) after → take 1 after ≡ starting_at 0 row ∷ []
+pub opened_alone : {s : List ℕ} {rows : List Row} → AcceptedFile s rows → general_header s rows ≡ None → (k : ℕ) {row : Row} → slice_get rows k ≡ Some row
+    → {before after : List Row} → block_limit ≤ length before → Open (block_bytes s row) before (Ok 1) after → take 1 after ≡ starting_at 0 row ∷ []
     → AloneBlock s k row
 opened_alone {s} {rows} file g k {row} at h c e =
     let allowed : Allowed (block_bytes s row) _ = record { file = omega (arith, bytes_small s row, file.small); table = h } in

@@ -6,18 +6,13 @@ pub use Prim.Native.Nat.{ℕ, ◌+◌, ◌*◌, ◌≤◌, ◌<◌}
 pub use lib.IntN.{pos}
 pub use lib.ListN.{length, take, drop}
 -- ---- Answers of the calls
+pub use Rattle.std.specs.Prelude.{Ok, Err}
+pub use Rattle.scan.specs.Outcome.{Outcome}
+pub use Rattle.description.specs.declared.Description.{Description}
+pub use Rattle.raster.specs.declared.Pixel.{Pixel}
 pub use Rattle.scan.specs.declared.Error.{Error}
-pub use Rattle.text.specs.declared.Written.{Written}
-pub use Rattle.text.specs.declared.Written.TheVariants.{Length}
-pub use Rattle.blocks.specs.declared.Opened.{Opened}
-pub use Rattle.blocks.specs.declared.Opened.TheVariants.{Blocks, Failed}
-pub use Rattle.description.specs.declared.Described.{Described}
-pub use Rattle.description.specs.declared.Described.TheVariants as described
-pub use Rattle.array.specs.declared.Sampled.{Sampled}
-pub use Rattle.array.specs.declared.Sampled.TheVariants as sampled
 -- ---- Definitions
 pub use Rattle.scan.specs.Byte.{ascii}
-pub use Rattle.scan.specs.Outcome.{ok}
 pub use Rattle.text.specs.Decimal.{decimal}
 pub use Rattle.text.specs.Text.{escaped, unescaped}
 pub use Rattle.keyword.specs.Keyword.{text_in}
@@ -46,7 +41,6 @@ pub use Rattle.edf.proofs.CallLaws as laws
 pub use Rattle.frame.proofs.Allowed.{written_says, written_is}
 pub use Rattle.readback.proofs.Main as writer
 pub use Rattle.listing.proofs.OneBlock.{one_block_listing}
-pub use Rattle.edf.proofs.CallLaws.{described_by_lem, sampled_by_lem}
 pub use Rattle.edf.proofs.CallLaws.{with_room, wrote, unescaped_back}
 pub use Rattle.edf.proofs.CallLaws.{opens_rows, file_small}
 pub use Rattle.edf.proofs.OpeningLaws.{promised}

@@ -1,13 +1,14 @@
-use mathlib.Core.Path.{sym, ◌∙◌}
-use borrow.Author.Tests.{eq-eqb, ne_eqb}
-use Rattle.scan.proofs.Searches.{search_end, search_hit, search_on}
+use Rattle.std.proofs.Common.{◌-◌, refl, length, rules, tests}
+use Rattle.std.proofs.lemmas.Iterator.{YieldsList-from_range}
+use Rattle.std.proofs.lemmas.Iterator.Search.{find_from_yields_List}
+use Rattle.scan.specs.Byte.{byte}
+use Rattle.scan.specs.Search.{is}
+use Rattle.scan.proofs.Searches.{found_offset}
 use Rattle.scan.proofs.find.Goals as goal
 
-pub returns-then-s-i : goal.returns-then-s-i
-returns-then-s-i c = sym (c.loop-i.invariant ∙ search_hit _ _ _ c.loop-i-test.true (eq-eqb _ _ c.if-s-i.true))
-
-pub loop-i-preserved : goal.loop-i-preserved
-loop-i-preserved c = search_on _ _ _ c.loop-i.invariant c.loop-i-test.true (ne_eqb _ _ c.if-s-i.false)
-
 pub returns : goal.returns
-returns c = sym (c.loop-i.invariant ∙ search_end _ _ _ c.loop-i-test.false)
+returns c =
+    let s = c.args.s.now in
+    let from = c.args.from in
+    found_offset (is c.args.b) s from c.find.result
+    (find_from_yields_List (λ i. is c.args.b (byte s i)) _ _ c.find.result c.find.ensures.ran (YieldsList-from_range from (length s) (length s - from) refl refl) (λ x r q k. search (rules, tests)))

@@ -1,6 +1,6 @@
 -- `stored::stored_described` meets its contract.
+use Rattle.std.specs.Prelude.{Ok}
 use mathlib.Core.Path.{refl, sym, ◌∙◌}
-use Rattle.scan.specs.Outcome.{ok}
 use Rattle.stored.specs.Stored.{stored_with}
 use Rattle.stored.proofs.stored_described.Goals as goal
 
@@ -12,8 +12,8 @@ pub returns : goal.returns
 unfolding stored_with
 returns c =
     rw (sym c.is_order.ensures ∙ c.if-not-is_order.false)
-    (λ j. ok (record {
+    (λ j. Ok (record {
       description = c.args.d;
-      span = record { offset = c.args.offset; length = c.array_length-n.ensures j };
-      delivered = c.as_delivered-same.ensures j;
+      span = record { offset = c.args.offset; length = c.array_length.ensures j };
+      delivered = c.as_delivered.ensures j;
     }))

@@ -15,17 +15,17 @@ use Rattle.array.proofs.DeliveryLaws.{few, steps_fit, steps_hold, room_fits, del
 use borrow.Author.Rules.{rules}
 use Rattle.array.proofs.deliver.deliver_array.Goals as goal
 
-pub returns-then-dim1-eq0 : goal.returns-then-dim1-eq0
-returns-then-dim1-eq0 c =
-    ap (λ (l : List ℕ). over l c.args.out.now) (sym (empty_delivered c.args.d c.args.asked c.args.src.now c.if-dim1-eq0.true))
+pub returns-then-d-eq0 : goal.returns-then-d-eq0
+returns-then-d-eq0 c =
+    ap (λ (l : List ℕ). over l c.args.out.now) (sym (empty_delivered c.args.d c.args.asked c.args.src.now c.if-d-eq0.true))
 
-pub steps_of-t-requires : goal.steps_of-t-requires
-steps_of-t-requires c =
-    let some1 : 1 ≤ c.args.d.dim1 = omega (arith, c.if-dim1-eq0.false) in record { le_configuration = (c.requires.valid_array.configured.0, few c.args.d _ c.requires.valid_array); le_dim1 = (some1, c.requires.valid_array.some2, c.requires.valid_array.some3); dim3_bound = steps_fit c.args.d _ c.requires.valid_array c.width_of-w.result c.width_of-w.ensures (omega arith) }
+pub steps_of-steps-requires : goal.steps_of-steps-requires
+steps_of-steps-requires c =
+    let some1 : 1 ≤ c.args.d.dim1 = omega (arith, c.if-d-eq0.false) in record { le_configuration = (c.requires.valid_array.configured.0, few c.args.d _ c.requires.valid_array); le_dim1 = (some1, c.requires.valid_array.some2, c.requires.valid_array.some3); dim3_bound = steps_fit c.args.d _ c.requires.valid_array c.width_of-width.result c.width_of-width.ensures (omega arith) }
 
 pub deliver-requires : goal.deliver-requires
 deliver-requires c =
-    let some1 : 1 ≤ c.args.d.dim1 = omega (arith, c.if-dim1-eq0.false) in record { inside3 = steps_hold c.args.d _ c.requires.valid_array c.width_of-w.result c.width_of-w.ensures c.steps_of-t.result c.steps_of-t.ensures some1; dim1_bound = room_fits c.args.d _ c.requires.valid_array (length c.args.out.now) (omega arith) c.requires.d_in_bounds }
+    let some1 : 1 ≤ c.args.d.dim1 = omega (arith, c.if-d-eq0.false) in record { inside3 = steps_hold c.args.d _ c.requires.valid_array c.width_of-width.result c.width_of-width.ensures c.steps_of-steps.result c.steps_of-steps.ensures some1; dim1_bound = room_fits c.args.d _ c.requires.valid_array (length c.args.out.now) (omega arith) c.requires.d_in_bounds }
 
 pub returns : goal.returns
 returns c =
@@ -33,9 +33,9 @@ returns c =
     c.deliver.ensures
     ∙ ap
     (λ (z : ℤ).
-    over (delivered_at (array_type c.args.d) c.args.d.byteorder z c.args.asked c.args.src.now c.steps_of-t.result c.args.d.dim1 c.args.d.dim2 c.args.d.dim3)
+    over (delivered_at (array_type c.args.d) c.args.d.byteorder z c.args.asked c.args.src.now c.steps_of-steps.result c.args.d.dim1 c.args.d.dim2 c.args.d.dim3)
     c.args.out.now)
     (to_z-of_z w64 c.args.d.offset offset-fits)
     ∙ ap (λ (l : List ℕ). over l c.args.out.now)
-    (delivered_made c.args.d _ c.requires.valid_array c.width_of-w.result c.width_of-w.ensures c.steps_of-t.result c.steps_of-t.ensures
+    (delivered_made c.args.d _ c.requires.valid_array c.width_of-width.result c.width_of-width.ensures c.steps_of-steps.result c.steps_of-steps.ensures
     c.args.asked c.args.src.now)

@@ -11,6 +11,7 @@ use Rattle.raster.specs.Strided.{delivered_at}
 use Rattle.raster.specs.Types.{type_of}
 use Rattle.raster.proofs.Tables.{type_width_few, type_width_some}
 use Rattle.delivery.proofs.Planes.{octets_all}
+use Rattle.shift.proofs.Digits.{low_first_8}
 use Rattle.array.proofs.PixelLaws.{steps_at, one_inside, bits_read}
 use borrow.Author.Rules.{rules}
 use Rattle.array.proofs.pixel.bits_of.Goals as goal
@@ -26,6 +27,6 @@ returns c =
     ∙ ap (λ (z : ℤ).
     over (delivered_at (type_of c.args.d.datatype) c.args.d.byteorder z 2 c.args.src.now (steps_at c.args.at) 1 1 1) (replicate 8 0))
     (to_z-of_z w64 c.args.d.offset offset-fits) in
-    let both = bits_read (type_of c.args.d.datatype) c.args.d.byteorder c.args.d.offset c.args.src.now c.args.at _ c.low8.result
-    (type_width_some c.args.d.datatype) c.requires (octets_all c.args.src.now (λ i. (c.shared_slice_known-1.given i).fits))
-    filled c.low8.ensures.0 in record { value = both.0; upper_bound = both.1 }
+    let both = bits_read (type_of c.args.d.datatype) c.args.d.byteorder c.args.d.offset c.args.src.now c.args.at _ c.from_le_bytes.result
+    (type_width_some c.args.d.datatype) c.requires (octets_all c.args.src.now (λ i. (c.type_inv.src i).fits))
+    filled (c.from_le_bytes.ensures ∙ low_first_8 _ (search rules)) in record { value = both.0; upper_bound = both.1 }

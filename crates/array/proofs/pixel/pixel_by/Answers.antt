@@ -10,35 +10,33 @@ use Rattle.raster.proofs.Tables.{type_width, type_width_some}
 use Rattle.array.proofs.PixelValues.{half_fits, four_fits, pixel_unsigned, pixel_signed, pixel_narrow, pixel_wide}
 use Rattle.array.proofs.pixel.pixel_by.Goals as goal
 
-pub returns-then-class-eq0 : goal.returns-then-class-eq0
-returns-then-class-eq0 c =
-    pixel_unsigned (type_of c.args.datatype).class (type_of c.args.datatype).width c.args.n (sym c.class_of-class.ensures ∙ c.if-class-eq0.true)
+pub returns-in-Unsigned : goal.returns-in-Unsigned
+returns-in-Unsigned c = pixel_unsigned _ _ (sym c.of.ensures ∙ c.in-Unsigned.is)
 
 pub half_of-requires : goal.half_of-requires
-half_of-requires c =
-    subst Width (sym c.width_of-w.ensures) (type_width c.args.datatype)
+half_of-requires c = subst Width (sym c.width_of-width.ensures) (type_width c.args.datatype)
 
 pub signed_of-requires : goal.signed_of-requires
 signed_of-requires c =
-    half_fits (type_of c.args.datatype).width c.width_of-w.result c.half_of.result c.args.n (type_width c.args.datatype) (type_width_some c.args.datatype)
-    c.width_of-w.ensures c.half_of.ensures c.requires
+    half_fits (type_of c.args.datatype).width c.width_of-width.result c.half_of.result c.args.n (type_width c.args.datatype) (type_width_some c.args.datatype)
+    c.width_of-width.ensures c.half_of.ensures c.requires
 
-pub returns-then-class-eq1 : goal.returns-then-class-eq1
-returns-then-class-eq1 c =
+pub returns-in-Signed : goal.returns-in-Signed
+returns-in-Signed c =
     let is = gave _ _ c.signed_of.type_inv (c.signed_of.ensures
-    ∙ ap (λ (x : ℕ). signed_of x c.args.n) (c.half_of.ensures ∙ ap half c.width_of-w.ensures)) in
-    pixel_signed (type_of c.args.datatype).class (type_of c.args.datatype).width c.args.n _ (sym c.class_of-class.ensures ∙ c.if-class-eq1.true) is
+    ∙ ap (λ (x : ℕ). signed_of x c.args.n) (c.half_of.ensures ∙ ap half c.width_of-width.ensures)) in
+    pixel_signed _ _ _ (sym c.of.ensures ∙ c.in-Signed.is) is
 
 pub overflow_cast-n : goal.overflow_cast-n
 overflow_cast-n c =
-    omega (arith, four_fits (type_of c.args.datatype).width c.width_of-w.result c.args.n c.width_of-w.ensures c.if-w-eq4.true c.requires)
+    omega (arith, four_fits (type_of c.args.datatype).width c.width_of-width.result c.args.n c.width_of-width.ensures c.if-width-eq4.true c.requires)
 
-pub returns-then-w-eq4 : goal.returns-then-w-eq4
-returns-then-w-eq4 c =
-    pixel_narrow (type_of c.args.datatype).class (type_of c.args.datatype).width c.args.n _ (λ e. c.if-class-eq0.false (c.class_of-class.ensures ∙ e))
-    (λ e. c.if-class-eq1.false (c.class_of-class.ensures ∙ e)) (sym c.width_of-w.ensures ∙ c.if-w-eq4.true) c.f32_of.ensures
+pub returns-in-Float : goal.returns-in-Float
+returns-in-Float c =
+    pixel_narrow _ _ _ (sym c.of.ensures ∙ c.in-Float.is) (sym c.width_of-width.ensures ∙ c.if-width-eq4.true)
+    c.f32_from_bits_with_nan.ensures
 
-pub returns-else-w-eq4 : goal.returns-else-w-eq4
-returns-else-w-eq4 c =
-    pixel_wide (type_of c.args.datatype).class (type_of c.args.datatype).width c.args.n _ (λ e. c.if-class-eq0.false (c.class_of-class.ensures ∙ e))
-    (λ e. c.if-class-eq1.false (c.class_of-class.ensures ∙ e)) (λ e. c.if-w-eq4.false (c.width_of-w.ensures ∙ e)) c.f64_of.ensures
+pub returns-in-Float-2 : goal.returns-in-Float-2
+returns-in-Float-2 c =
+    pixel_wide _ _ _ (sym c.of.ensures ∙ c.in-Float-2.is) (λ e. c.if-width-eq4.false (c.width_of-width.ensures ∙ e))
+    c.f64_from_bits_with_nan.ensures

@@ -22,8 +22,8 @@ pub deliver_array-requires : goal.deliver_array-requires
 deliver_array-requires c =
     record { valid_array = c.requires; d_in_bounds = omega (arith, c.array_length-n.ensures, c.if-out-n.false) }
 
-pub returns-else-out-n : goal.returns-else-out-n
-returns-else-out-n c =
+pub returns : goal.returns
+returns c =
     let long = c.array_length-n.ensures ∙ sym (length-delivered c.args.d _ c.requires c.args.asked c.args.src.now) in
     let both = of_equal _ _ _ (good_order c.args.d c.args.src.now c.args.asked (sym c.is_order.ensures ∙ c.if-not-is_order.false))
     (fits _ _ long c.if-out-n.false c.deliver_array.ensures) in record { result_value = both.0; out_after = both.1 }

@@ -1,17 +1,23 @@
 -- `columns::described::dims_column` meets its contract.
-use Rattle.append.proofs.Appending.{appended_then, appended_is}
-use Rattle.columns.proofs.ColumnLaws.{one_dim, two_dims, three_dims}
 use native.Mathlib.Omega.{arith}
+use Prim.Native.Nat.{◌-◌}
+use lib.ListN.{length, take, drop, length-take, length-drop}
+use Rattle.columns.specs.Columns.{after}
+use Rattle.append.proofs.Appending.{within_then, within_is, within_more, within_nothing}
+use Rattle.columns.proofs.ColumnLaws.{after_more, dims_joined}
 use Rattle.columns.proofs.described.dims_column.Goals as goal
 
-pub returns-then-n-eq1 : goal.returns-then-n-eq1
-returns-then-n-eq1 c =
-    record { appended = appended_is (one_dim _ _ _ _ c.if-n-eq1.true) c.number_after-a.ensures.appended; upper_bound = omega (arith, c.number_after-a.ensures.upper_bound) }
+pub loop-dim-init : goal.loop-dim-init
+unfolding after
+loop-dim-init c = within_nothing (omega arith)
 
-pub returns-then-n-eq2 : goal.returns-then-n-eq2
-returns-then-n-eq2 c =
-    record { appended = appended_is (two_dims _ _ _ _ c.if-n-eq2.true) (appended_then c.number_after-a.ensures.appended c.number_after-b.ensures.appended); upper_bound = omega (arith, c.number_after-a.ensures.upper_bound, c.number_after-b.ensures.upper_bound) }
+pub loop-dim-preserved : goal.loop-dim-preserved
+loop-dim-preserved c =
+    let rest = take (length c.args.dims.now - 1) (drop 1 c.args.dims.now) in
+    within_is (after_more c.loop-dim.dim-index rest (omega (arith, length-take (length c.args.dims.now - 1) (drop 1 c.args.dims.now), length-drop 1 c.args.dims.now)))
+    (within_more (omega arith) (within_then c.loop-dim.invariant c.number_after-in-loop-dim.ensures))
 
 pub returns : goal.returns
 returns c =
-    record { appended = appended_is (three_dims _ _ _ c.args.n (omega arith)) (appended_then (appended_then c.number_after-a.ensures.appended c.number_after-b.ensures.appended) c.number_after.ensures.appended); upper_bound = omega (arith, c.number_after-a.ensures.upper_bound, c.number_after-b.ensures.upper_bound, c.number_after.ensures.upper_bound) }
+    within_is (dims_joined c.loop-dim.dim-index c.args.dims.now c.requires.some.0 (omega arith))
+    (within_more (omega arith) (within_then c.number_after.ensures c.loop-dim.invariant))

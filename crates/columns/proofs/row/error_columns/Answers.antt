@@ -1,9 +1,7 @@
 -- `columns::row::error_columns` meets its contract.
-use Rattle.append.proofs.Appending.{appended_then, appended_is}
+use Rattle.append.proofs.Appending.{within_then, within_is}
 use Rattle.columns.proofs.ColumnLaws.{error_is}
-use native.Mathlib.Omega.{arith}
 use Rattle.columns.proofs.row.error_columns.Goals as goal
 
 pub returns : goal.returns
-returns c =
-    record { appended = appended_is (error_is c.args.e) (appended_then c.number_after-a.ensures.appended c.number_after.ensures.appended); upper_bound = omega (arith, c.number_after-a.ensures.upper_bound, c.number_after.ensures.upper_bound) }
+returns c = within_is (error_is c.args.e) (within_then c.number_after.ensures c.number_after-2.ensures)

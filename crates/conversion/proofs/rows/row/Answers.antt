@@ -1,29 +1,24 @@
 -- `conversion::rows::row` meets its contract: each way calls the loop for what the elements need.
-use mathlib.Core.Path.{sym, ap, ◌∙◌}
-use mathlib.Core.Bool.{Bool, cond}
-use mathlib.Core.List.{List}
-use Prim.Native.Nat.{ℕ}
-use Rattle.raster.specs.Strided.{turned, row_of}
-use Rattle.shift.specs.Shifting.{shifted_bytes}
-use Rattle.conversion.specs.Converting.{converted}
+use Rattle.std.proofs.Common.{sym, ap, ◌∙◌}
+use Rattle.raster.specs.Strided.{row_of}
+use Rattle.conversion.specs.Converting.{made_by}
+use Rattle.conversion.specs.declared.conversion.Way.{Way}
 use Rattle.conversion.proofs.rows.row.Goals as goal
 
-pub returns-then-c : goal.returns-then-c
-unfolding converted
-returns-then-c c =
-    c.added.ensures
-    ∙ ap (λ (b : Bool). row_of (λ (l : List ℕ). cond b (shifted_bytes c.args.c.width c.args.c.shift c.args.c.order c.args.c.asked l) (turned c.args.c.reverses l)) c.args.c.width c.args.src.now c.args.at c.args.up c.args.down c.args.n) (sym c.if-c.true)
+pub returns-in-Kept : goal.returns-in-Kept
+unfolding made_by
+returns-in-Kept c =
+    let r = c.args.row.now in
+    c.kept.ensures ∙ ap (λ (y : Way). row_of (made_by c.args.c.width y) c.args.c.width c.args.src.now r.at r.up r.down r.count) (sym c.in-Kept.is)
 
-pub returns-then-c-2 : goal.returns-then-c-2
-unfolding converted
-returns-then-c-2 c =
-    c.reversed.ensures
-    ∙ ap (λ (b : Bool). row_of (λ (l : List ℕ). turned b l) c.args.c.width c.args.src.now c.args.at c.args.up c.args.down c.args.n) (sym c.if-c-2.true)
-    ∙ ap (λ (b : Bool). row_of (λ (l : List ℕ). cond b (shifted_bytes c.args.c.width c.args.c.shift c.args.c.order c.args.c.asked l) (turned c.args.c.reverses l)) c.args.c.width c.args.src.now c.args.at c.args.up c.args.down c.args.n) (sym c.if-c.false)
+pub returns-in-Reversed : goal.returns-in-Reversed
+unfolding made_by
+returns-in-Reversed c =
+    let r = c.args.row.now in
+    c.reversed.ensures ∙ ap (λ (y : Way). row_of (made_by c.args.c.width y) c.args.c.width c.args.src.now r.at r.up r.down r.count) (sym c.in-Reversed.is)
 
-pub returns : goal.returns
-unfolding converted
-returns c =
-    c.kept.ensures
-    ∙ ap (λ (b : Bool). row_of (λ (l : List ℕ). turned b l) c.args.c.width c.args.src.now c.args.at c.args.up c.args.down c.args.n) (sym c.if-c-2.false)
-    ∙ ap (λ (b : Bool). row_of (λ (l : List ℕ). cond b (shifted_bytes c.args.c.width c.args.c.shift c.args.c.order c.args.c.asked l) (turned c.args.c.reverses l)) c.args.c.width c.args.src.now c.args.at c.args.up c.args.down c.args.n) (sym c.if-c.false)
+pub returns-in-Added : goal.returns-in-Added
+unfolding made_by
+returns-in-Added c =
+    let r = c.args.row.now in
+    c.with_offset.ensures ∙ ap (λ (y : Way). row_of (made_by c.args.c.width y) c.args.c.width c.args.src.now r.at r.up r.down r.count) (sym c.in-Added.is)

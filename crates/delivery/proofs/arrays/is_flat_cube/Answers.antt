@@ -1,19 +1,12 @@
 -- `delivery::arrays::is_flat_cube` meets its contract.
-use mathlib.Core.Path.{refl}
-use borrow.Author.Tests.{eq-eqb, ne_eqb}
+use Rattle.std.proofs.Common.{rules}
 use Rattle.delivery.specs.Flat.{flat_cube}
 use Rattle.delivery.proofs.arrays.is_flat_cube.Goals as goal
 
-pub returns-then-t-ne0 : goal.returns-then-t-ne0
+pub returns-then-cube-w : goal.returns-then-cube-w
 unfolding flat_cube
-returns-then-t-ne0 c = rw (ne_eqb c.args.t.down3 0 c.if-t-ne0.true) refl
+returns-then-cube-w c = search rules
 
-pub returns-then-t-w : goal.returns-then-t-w
+pub returns-else-cube-w : goal.returns-else-cube-w
 unfolding flat_cube
-returns-then-t-w c =
-    rw (eq-eqb c.args.t.down3 0 c.if-t-ne0.false, ne_eqb c.args.t.up3 _ c.if-t-w.true) refl
-
-pub returns : goal.returns
-unfolding flat_cube
-returns c =
-    rw (eq-eqb c.args.t.down3 0 c.if-t-ne0.false, eq-eqb c.args.t.up3 _ c.if-t-w.false) c.is_flat.ensures
+returns-else-cube-w c = search rules

@@ -1,15 +1,20 @@
--- `delivery::tiles::are_slow` meets its contract: each answer by the tests that lead to it.
-use Rattle.delivery.proofs.SlowRows.{not_near, few_places, few_pages, many_pages}
+-- `delivery::tiles::are_slow` meets its contract.
+use Rattle.std.proofs.Common.{rules}
+use Rattle.delivery.specs.Tiles.{slow_rows}
 use Rattle.delivery.proofs.tiles.are_slow.Goals as goal
 
-pub returns-then-fast-ge64 : goal.returns-then-fast-ge64
-returns-then-fast-ge64 c = not_near _ _ _ c.if-fast-ge64.true
-
 pub returns-then-slow-eq0 : goal.returns-then-slow-eq0
-returns-then-slow-eq0 c = few_places _ _ _ c.if-fast-ge64.false c.if-slow-eq0.true
+unfolding slow_rows
+returns-then-slow-eq0 c = search rules
 
-pub returns-then-slow-lt4096 : goal.returns-then-slow-lt4096
-returns-then-slow-lt4096 c = few_pages _ _ _ c.if-fast-ge64.false c.if-slow-eq0.false c.if-slow-lt4096.true
+pub returns-then-slow-ge4096 : goal.returns-then-slow-ge4096
+unfolding slow_rows
+returns-then-slow-ge4096 c = search rules
 
-pub returns : goal.returns
-returns c = many_pages _ _ _ c.if-fast-ge64.false c.if-slow-eq0.false c.if-slow-lt4096.false
+pub returns-else-slow-ge4096 : goal.returns-else-slow-ge4096
+unfolding slow_rows
+returns-else-slow-ge4096 c = search rules
+
+pub returns-else-fast-lt64 : goal.returns-else-fast-lt64
+unfolding slow_rows
+returns-else-fast-lt64 c = search rules

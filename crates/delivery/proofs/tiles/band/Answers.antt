@@ -1,28 +1,41 @@
-use mathlib.Core.Path.{refl, ◌∙◌}
-use native.Mathlib.Omega.{arith}
-use borrow.Author.Rules.{rules}
+use Rattle.std.proofs.Common.{◌≡◌, ℕ, ◌+◌, ◌≤◌, ap, ◌∙◌, arith}
+use Rattle.raster.specs.Bytes.{joined}
 use Rattle.conversion.specs.Converting.{converted}
-use Rattle.delivery.proofs.TileLaws.{tiles_none, tiles_more, tiles_done}
+use Rattle.delivery.proofs.TileLaws.{begun, tiles_none, tiles_more, tiles_done}
 use Rattle.conversion.proofs.Lengths.{length-converted}
 use Rattle.delivery.proofs.tiles.band.Goals as goal
 
-pub loop-first-init : goal.loop-first-init
-loop-first-init c =
-    (search rules, refl, tiles_none (converted c.args.c) c.args.c.width (length-converted c.args.c) c.args.src.now c.args.at c.args.t c.args.n1 c.args.n2 c.requires.inside2 c.args.out.now c.requires.n2_nonzero.2)
+pub loop-m-init : goal.loop-m-init
+loop-m-init c =
+    let a = c.args in
+    (omega arith, tiles_none (converted a.c) a.c.width (length-converted a.c) a.src.now a.plane c.requires.inside a.out.now c.requires.fills)
 
-pub tile-requires : goal.tile-requires
-tile-requires c =
-    record { width = c.requires.width; inside2 = c.requires.inside2; first_lt_n1 = omega arith; n2_nonzero = omega arith }
-
-pub loop-first-preserved : goal.loop-first-preserved
-loop-first-preserved c = (
-  omega arith,
-  c.out-1.given ∙ c.loop-first.invariant.1,
-  tiles_more (converted c.args.c) c.args.c.width (length-converted c.args.c) c.args.src.now c.args.at c.args.t c.args.n1 c.args.n2 c.requires.inside2 c.args.out.now c.requires.n2_nonzero.2 c.loop-first.first c.tile_width-k.result _ _
-      (omega arith) c.loop-first.invariant.2 c.tile.ensures,
-)
+pub loop-m-preserved : goal.loop-m-preserved
+loop-m-preserved c =
+    let a = c.args in
+    let f = converted a.c in
+    let k = c.min-k.result in
+    let whole : k ≡ 64 = omega (arith, c.min-k.ensures) in
+    let fits : c.loop-m.m + k ≤ a.plane.first.count = omega (arith, c.min-k.ensures) in (
+      omega (arith, whole, fits),
+      tiles_more f a.c.width (length-converted a.c) a.src.now a.plane c.requires.inside a.out.now c.requires.fills c.loop-m.m k _ _ fits
+          c.loop-m.invariant.1 c.tile.ensures
+          ∙ ap (λ (n : ℕ). joined a.plane.count (begun f a.c.width a.src.now a.plane a.out.now (c.loop-m.m + n))) whole,
+    )
 
 pub returns : goal.returns
 returns c =
-    tiles_done (converted c.args.c) c.args.c.width (length-converted c.args.c) c.args.src.now c.args.at c.args.t c.args.n1 c.args.n2 c.requires.inside2 c.args.out.now c.requires.n2_nonzero.2 c.loop-first.first _ c.loop-first.invariant.0 c.loop-first-test.false
-    c.loop-first.invariant.2
+    let a = c.args in
+    tiles_done (converted a.c) a.c.width (length-converted a.c) a.src.now a.plane c.requires.inside a.out.now c.requires.fills c.loop-m.m _
+    c.loop-m.invariant.0 c.loop-m-test.false c.loop-m.invariant.1
+
+pub returns-2 : goal.returns-2
+returns-2 c =
+    let a = c.args in
+    let f = converted a.c in
+    let k = c.min-k.result in
+    let fits : c.loop-m.m + k ≤ a.plane.first.count = omega (arith, c.min-k.ensures) in
+    let last : a.plane.first.count ≤ c.loop-m.m + k = omega (arith, c.min-k.ensures) in
+    tiles_done f a.c.width (length-converted a.c) a.src.now a.plane c.requires.inside a.out.now c.requires.fills (c.loop-m.m + k) _ fits last
+    (tiles_more f a.c.width (length-converted a.c) a.src.now a.plane c.requires.inside a.out.now c.requires.fills c.loop-m.m k _ _ fits
+    c.loop-m.invariant.1 c.tile.ensures)

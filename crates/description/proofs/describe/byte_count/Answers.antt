@@ -3,11 +3,5 @@ use native.Mathlib.Nat.{mul-le-mul}
 use native.Mathlib.Omega.{arith}
 use Rattle.description.proofs.describe.byte_count.Goals as goal
 
-pub overflow_mul-result : goal.overflow_mul-result
-overflow_mul-result c = omega (arith, mul-le-mul c.requires.0 c.requires.1)
-
-pub overflow_mul-result-2 : goal.overflow_mul-result-2
-overflow_mul-result-2 c = omega (arith, mul-le-mul (mul-le-mul c.requires.0 c.requires.1) c.requires.2)
-
 pub overflow_mul-result-3 : goal.overflow_mul-result-3
 overflow_mul-result-3 c = omega (arith, mul-le-mul (mul-le-mul (mul-le-mul c.requires.0 c.requires.1) c.requires.2) c.requires.3)

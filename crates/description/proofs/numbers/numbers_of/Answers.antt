@@ -1,29 +1,33 @@
 -- `description::numbers::numbers_of` meets its contract.
-use mathlib.Core.Path.{sym, ap, ◌∙◌}
+use mathlib.Core.Path.{sym, ◌∙◌}
+use borrow.Author.Rules.{rules}
 use mir.Syntax.{w64}
 use mir.Val.{SFits}
 use mir.ValLaws.{to_z-of_z}
-use Rattle.keyword.specs.Answers.{number_outcome}
-use Rattle.description.specs.Answers.{ranged_outcome}
+use Rattle.scan.proofs.Exits.{exits}
 use Rattle.description.proofs.DescribeLaws.{bad_configuration, bad_orientation, bad_offset, good_numbers}
-use borrow.Author.Rules.{rules}
 use Rattle.description.proofs.numbers.numbers_of.Goals as goal
 
-pub returns-in-Failed : goal.returns-in-Failed
-returns-in-Failed c = bad_configuration _ _ (sym (ap ranged_outcome c.in-Failed.is) ∙ c.range_field.ensures)
+pub returns-in_err-range_field : goal.returns-in_err-range_field
+returns-in_err-range_field c =
+    exits _ c.from_residual.ensures.1 ∙ bad_configuration _ _ (sym c.in_err-range_field.was ∙ c.range_field.ensures)
 
-pub returns-in-Failed-range_field : goal.returns-in-Failed-range_field
-returns-in-Failed-range_field c =
-    bad_orientation _ _ (sym (ap ranged_outcome c.in-Value.is) ∙ c.range_field.ensures)
-    (sym (ap ranged_outcome c.in-Failed-range_field.is) ∙ c.range_field-in-Value.ensures)
+pub returns-in_err-range_field-2 : goal.returns-in_err-range_field-2
+returns-in_err-range_field-2 c =
+    exits _ c.from_residual-in_err-range_field-2.ensures.1
+    ∙ bad_orientation _ _ (sym c.in_ok-range_field.was ∙ c.range_field.ensures)
+    (sym c.in_err-range_field-2.was ∙ c.range_field-2.ensures)
 
-pub returns-in-Failed-value_offset : goal.returns-in-Failed-value_offset
-returns-in-Failed-value_offset c =
-    bad_offset _ _ (sym (ap ranged_outcome c.in-Value.is) ∙ c.range_field.ensures) (sym (ap ranged_outcome c.in-Value-range_field.is) ∙ c.range_field-in-Value.ensures)
-    (sym (ap number_outcome c.in-Failed-value_offset.is) ∙ c.value_offset.ensures)
+pub returns-in_err-value_offset : goal.returns-in_err-value_offset
+returns-in_err-value_offset c =
+    exits _ c.from_residual-in_err-value_offset.ensures.1
+    ∙ bad_offset _ _ (sym c.in_ok-range_field.was ∙ c.range_field.ensures)
+    (sym c.in_ok-range_field-2.was ∙ c.range_field-2.ensures)
+    (sym c.in_err-value_offset.was ∙ c.value_offset.ensures)
 
-pub returns-in-Value-value_offset : goal.returns-in-Value-value_offset
-returns-in-Value-value_offset c =
-    let F : SFits w64 c.in-Value-value_offset.z = search rules in
-    good_numbers _ _ (sym (ap ranged_outcome c.in-Value.is) ∙ c.range_field.ensures) (sym (ap ranged_outcome c.in-Value-range_field.is) ∙ c.range_field-in-Value.ensures)
-    (sym (ap number_outcome c.in-Value-value_offset.is) ∙ c.value_offset.ensures) (to_z-of_z w64 _ F)
+pub returns : goal.returns
+returns c =
+    let fits : SFits w64 c.in_ok-value_offset.field-0 = search rules in
+    good_numbers _ _ (sym c.in_ok-range_field.was ∙ c.range_field.ensures)
+    (sym c.in_ok-range_field-2.was ∙ c.range_field-2.ensures)
+    (sym c.in_ok-value_offset.was ∙ c.value_offset.ensures) (to_z-of_z w64 _ fits)

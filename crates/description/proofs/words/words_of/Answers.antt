@@ -1,23 +1,32 @@
 -- `description::words::words_of` meets its contract.
-use mathlib.Core.Path.{sym, ap, ◌∙◌}
-use Rattle.description.specs.Answers.{coded_outcome}
+use mathlib.Core.Path.{sym, ◌∙◌}
+use Rattle.scan.proofs.Exits.{exits}
+use Rattle.raster.specs.Types.{types, type_words, order_words, compression_words}
 use Rattle.description.proofs.DescribeLaws.{bad_type, bad_order, bad_compression, good_words}
 use Rattle.description.proofs.words.words_of.Goals as goal
 
-pub returns-in-Failed : goal.returns-in-Failed
-returns-in-Failed c = bad_type _ (sym (ap coded_outcome c.in-Failed.is) ∙ c.data_type.ensures)
+pub returns-in_err-word_field : goal.returns-in_err-word_field
+unfolding types type_words
+returns-in_err-word_field c = exits _ c.from_residual.ensures.1 ∙ bad_type _ (sym c.in_err-word_field.was ∙ c.word_field.ensures)
 
-pub returns-in-Failed-byte_order : goal.returns-in-Failed-byte_order
-returns-in-Failed-byte_order c =
-    bad_order _ (sym (ap coded_outcome c.in-As.is) ∙ c.data_type.ensures)
-    (sym (ap coded_outcome c.in-Failed-byte_order.is) ∙ c.byte_order.ensures)
+pub returns-in_err-word_field-2 : goal.returns-in_err-word_field-2
+unfolding types type_words order_words
+returns-in_err-word_field-2 c =
+    exits _ c.from_residual-in_err-word_field-2.ensures.1
+    ∙ bad_order _ (sym c.in_ok-word_field.was ∙ c.word_field.ensures)
+    (sym c.in_err-word_field-2.was ∙ c.word_field-2.ensures)
 
-pub returns-in-Failed-compression : goal.returns-in-Failed-compression
-returns-in-Failed-compression c =
-    bad_compression _ (sym (ap coded_outcome c.in-As.is) ∙ c.data_type.ensures) (sym (ap coded_outcome c.in-As-byte_order.is) ∙ c.byte_order.ensures)
-    (sym (ap coded_outcome c.in-Failed-compression.is) ∙ c.compression.ensures)
+pub returns-in_err-word_field-3 : goal.returns-in_err-word_field-3
+unfolding types type_words order_words compression_words
+returns-in_err-word_field-3 c =
+    exits _ c.from_residual-in_err-word_field-3.ensures.1
+    ∙ bad_compression _ (sym c.in_ok-word_field.was ∙ c.word_field.ensures)
+    (sym c.in_ok-word_field-2.was ∙ c.word_field-2.ensures)
+    (sym c.in_err-word_field-3.was ∙ c.word_field-3.ensures)
 
-pub returns-in-As-compression : goal.returns-in-As-compression
-returns-in-As-compression c =
-    good_words _ (sym (ap coded_outcome c.in-As.is) ∙ c.data_type.ensures) (sym (ap coded_outcome c.in-As-byte_order.is) ∙ c.byte_order.ensures)
-    (sym (ap coded_outcome c.in-As-compression.is) ∙ c.compression.ensures)
+pub returns : goal.returns
+unfolding types type_words order_words compression_words
+returns c =
+    good_words _ (sym c.in_ok-word_field.was ∙ c.word_field.ensures)
+    (sym c.in_ok-word_field-2.was ∙ c.word_field-2.ensures)
+    (sym c.in_ok-word_field-3.was ∙ c.word_field-3.ensures)

@@ -1,18 +1,17 @@
 -- `frame::check::configurations` meets its contract.
-use Rattle.frame.proofs.FrameChecks.{configurations_are}
-use mathlib.Core.Path.{sym}
+use mathlib.Core.Path.{◌≡◌, sym, ap}
 use native.Mathlib.Omega.{arith}
 use Rattle.raster.specs.Axis.{configurations}
 use Rattle.frame.proofs.check.configurations.Goals as goal
 
-pub returns-then-n-eq1 : goal.returns-then-n-eq1
+pub returns-in-1 : goal.returns-in-1
 unfolding configurations
-returns-then-n-eq1 c = sym (configurations_are _ 1 c.if-n-eq1.true)
+returns-in-1 c = sym (ap configurations c.in-1.is)
 
-pub returns-then-n-eq2 : goal.returns-then-n-eq2
+pub returns-in-2 : goal.returns-in-2
 unfolding configurations
-returns-then-n-eq2 c = sym (configurations_are _ 2 c.if-n-eq2.true)
+returns-in-2 c = sym (ap configurations c.in-2.is)
 
-pub returns : goal.returns
+pub returns-in_default : goal.returns-in_default
 unfolding configurations
-returns c = sym (configurations_are c.args.n 3 (omega arith))
+returns-in_default c = let three : c.args.n ≡ 3 = omega arith in sym (ap configurations three)

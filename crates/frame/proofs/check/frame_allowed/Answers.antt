@@ -1,32 +1,41 @@
 -- `frame::check::frame_allowed` meets its contract.
-use Rattle.frame.proofs.FrameChecks.{codes_fail, count_fails, dims_fail, configuration_decides, few}
-use mathlib.Core.Path.{sym, ◌∙◌}
-use mir.Syntax.{w64}
-use mir.ValLaws.{to_z-of_z}
+use mathlib.Core.Path.{◌≡◌, sym, ap, ◌∙◌}
+use mathlib.Core.Bool.{◌&&◌}
+use Prim.Native.Nat.{ℕ}
+use Rattle.text.specs.Text.{every}
+use Rattle.description.specs.Limits.{dim_limit}
+use Rattle.frame.specs.File.{within, frame_dims, frame_allowed}
+use Rattle.frame.proofs.FrameChecks.{codes, and_then, and_else, every_is}
 use Rattle.frame.proofs.check.frame_allowed.Goals as goal
+use Rattle.frame.proofs.check.frame_allowed.Goals.{then-codes_allowed, else-codes_allowed, then-within, else-within}
 
-pub returns-then-not-codes_allowed : goal.returns-then-not-codes_allowed
-returns-then-not-codes_allowed c =
-    let e = to_z-of_z w64 c.args.f.memory (record { sfits = c.struct_told-1.given.1.1.0.1 }) in
-    codes_fail c.args.f e (sym c.codes_allowed.ensures ∙ c.if-not-codes_allowed.true)
+pub returns-then-dims_allowed : goal.returns-then-dims_allowed
+unfolding frame_allowed
+returns-then-dims_allowed c =
+    let two : c.if-codes_allowed.value ≡ (codes c.args.f && within 1 3 c.args.f.n) =
+    elim c.if-codes_allowed.branch [
+      | then-codes_allowed w ↦ w.value-is ∙ w.within.ensures ∙ and_then _ (sym c.codes_allowed.ensures ∙ w.if-codes_allowed.true)
+      | else-codes_allowed w ↦ w.value-is ∙ w.if-codes_allowed.false ∙ and_else _ (sym c.codes_allowed.ensures ∙ w.if-codes_allowed.false)
+    ] in
+    let three : c.if-within.value ≡ (codes c.args.f && within 1 3 c.args.f.n && every (within 1 dim_limit) (frame_dims c.args.f)) =
+    elim c.if-within.branch [
+      | then-within w ↦ w.value-is ∙ every_is _ _ _ w.dims_allowed.ensures ∙ and_then _ (sym two ∙ w.if-within.true)
+      | else-within w ↦ w.value-is ∙ w.if-within.false ∙ and_else _ (sym two ∙ w.if-within.false)
+    ] in
+    c.within-then-dims_allowed.ensures ∙ ap (λ (k : ℕ). within 1 k c.args.f.configuration) c.configurations.ensures
+    ∙ and_then _ (sym three ∙ c.if-dims_allowed.true)
 
-pub returns-then-not-within : goal.returns-then-not-within
-returns-then-not-within c =
-    let e = to_z-of_z w64 c.args.f.memory (record { sfits = c.struct_told-1.given.1.1.0.1 }) in
-    count_fails c.args.f e (sym c.codes_allowed.ensures ∙ c.if-not-codes_allowed.false) (sym c.within.ensures ∙ c.if-not-within.true)
-
-pub dims_allowed-requires : goal.dims_allowed-requires
-dims_allowed-requires c = few _ (sym c.within.ensures ∙ c.if-not-within.false)
-
-pub returns-then-not-dims_allowed : goal.returns-then-not-dims_allowed
-returns-then-not-dims_allowed c =
-    let e = to_z-of_z w64 c.args.f.memory (record { sfits = c.struct_told-1.given.1.1.0.1 }) in
-    dims_fail c.args.f e (sym c.codes_allowed.ensures ∙ c.if-not-codes_allowed.false) (sym c.within.ensures ∙ c.if-not-within.false) (sym c.dims_allowed.ensures ∙ c.if-not-dims_allowed.true)
-
-pub configurations-requires : goal.configurations-requires
-configurations-requires c = few _ (sym c.within.ensures ∙ c.if-not-within.false)
-
-pub returns : goal.returns
-returns c =
-    let e = to_z-of_z w64 c.args.f.memory (record { sfits = c.struct_told-1.given.1.1.0.1 }) in
-    configuration_decides c.args.f e (sym c.codes_allowed.ensures ∙ c.if-not-codes_allowed.false) (sym c.within.ensures ∙ c.if-not-within.false) (sym c.dims_allowed.ensures ∙ c.if-not-dims_allowed.false) _ _ c.configurations.ensures c.within-2.ensures
+pub returns-else-dims_allowed : goal.returns-else-dims_allowed
+unfolding frame_allowed
+returns-else-dims_allowed c =
+    let two : c.if-codes_allowed.value ≡ (codes c.args.f && within 1 3 c.args.f.n) =
+    elim c.if-codes_allowed.branch [
+      | then-codes_allowed w ↦ w.value-is ∙ w.within.ensures ∙ and_then _ (sym c.codes_allowed.ensures ∙ w.if-codes_allowed.true)
+      | else-codes_allowed w ↦ w.value-is ∙ w.if-codes_allowed.false ∙ and_else _ (sym c.codes_allowed.ensures ∙ w.if-codes_allowed.false)
+    ] in
+    let three : c.if-within.value ≡ (codes c.args.f && within 1 3 c.args.f.n && every (within 1 dim_limit) (frame_dims c.args.f)) =
+    elim c.if-within.branch [
+      | then-within w ↦ w.value-is ∙ every_is _ _ _ w.dims_allowed.ensures ∙ and_then _ (sym two ∙ w.if-within.true)
+      | else-within w ↦ w.value-is ∙ w.if-within.false ∙ and_else _ (sym two ∙ w.if-within.false)
+    ] in
+    c.if-dims_allowed.false ∙ and_else _ (sym three ∙ c.if-dims_allowed.false)

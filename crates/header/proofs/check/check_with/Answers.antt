@@ -1,66 +1,38 @@
-use mathlib.Core.Path.{◌≡◌, refl, sym, ◌∙◌}
-use Prim.Native.Nat.{◌≤◌, ◌<◌}
-use native.Mathlib.Omega.{arith}
-use borrow.Author.Rules.{rules}
-use lib.ListN.{length}
-use Rattle.header.specs.Statements.{statement_at}
-use Rattle.header.specs.declared.Next.TheVariants.{One}
-use Rattle.header.proofs.Leading.{statement-lies}
+use Rattle.std.proofs.Common.{◌≡◌, sym, ap, ◌∙◌, arith, rules}
+use Rattle.std.specs.Result.{result_ok}
 use Rattle.header.proofs.Walk.{passed_start, passed_more, passed_malformed, passed_end}
+use Rattle.header.proofs.WalkSteps.{given, broken, ended}
 use Rattle.header.proofs.check.check_with.Goals as goal
 
-pub loop-t-init : goal.loop-t-init
-loop-t-init c = (refl, passed_start _ _ _ _)
+pub loop-next-init : goal.loop-next-init
+loop-next-init c =
+    let at : c.into_iter-next-iterator.result.at ≡ c.args.from = search rules in
+    record { bytes = search rules; passed = rw at (passed_start _ _ _ _) }
 
-pub returns-in-Malformed : goal.returns-in-Malformed
-returns-in-Malformed c =
-    c.refused.ensures
-    ∙ sym (passed_malformed _ _ _ _ _ _ c.loop-t.invariant.1 _ (sym c.statement_at.ensures ∙ c.in-Malformed.is))
-
-pub returns-in-End : goal.returns-in-End
-returns-in-End c =
-    c.answer.ensures
-    ∙ sym (passed_end _ _ _ _ _ _ c.loop-t.invariant.1 _ (sym c.statement_at.ensures ∙ c.in-End.is))
+pub returns-in_default : goal.returns-in_default
+returns-in_default c =
+    let w = broken c.loop-next.invariant.bytes c.in-Some.ensures.steps (sym (ap result_ok c.in_default.is)) in
+    rw (passed_malformed _ _ _ _ _ _ c.loop-next.invariant.passed _ w) (search rules)
 
 pub still_short-short-requires : goal.still_short-short-requires
 still_short-short-requires c =
-    let found : statement_at c.args.s.now c.loop-t.at ≡ One c.in-One.t = sym c.statement_at.ensures ∙ c.in-One.is in
-    let lies : (c.loop-t.at < c.in-One.t.end)
-    × (c.in-One.t.end < length c.args.s.now)
-    × (c.in-One.t.first ≤ c.in-One.t.equals)
-    × (c.in-One.t.equals < c.in-One.t.end) = statement-lies _ _ _ (found) in
-    (lies.2, lies.3, lies.1)
+    let w = given c.loop-next.invariant.bytes c.in-Some.ensures.steps (sym (ap result_ok c.in-Ok.is)) in
+    (w.key_order, w.value_order, w.inside)
 
 pub still_distinct-distinct-requires : goal.still_distinct-distinct-requires
 still_distinct-distinct-requires c =
-    let found : statement_at c.args.s.now c.loop-t.at ≡ One c.in-One.t = sym c.statement_at.ensures ∙ c.in-One.is in
-    let lies : (c.loop-t.at < c.in-One.t.end)
-    × (c.in-One.t.end < length c.args.s.now)
-    × (c.in-One.t.first ≤ c.in-One.t.equals)
-    × (c.in-One.t.equals < c.in-One.t.end) = statement-lies _ _ _ (found) in
-    let l = lies in (l.2, omega arith)
+    let w = given c.loop-next.invariant.bytes c.in-Some.ensures.steps (sym (ap result_ok c.in-Ok.is)) in
+    (w.key_order, omega arith)
 
-pub overflow_add-at : goal.overflow_add-at
-overflow_add-at c =
-    let found : statement_at c.args.s.now c.loop-t.at ≡ One c.in-One.t = sym c.statement_at.ensures ∙ c.in-One.is in
-    let lies : (c.loop-t.at < c.in-One.t.end)
-    × (c.in-One.t.end < length c.args.s.now)
-    × (c.in-One.t.first ≤ c.in-One.t.equals)
-    × (c.in-One.t.equals < c.in-One.t.end) = statement-lies _ _ _ (found) in
-    omega (arith, lies)
+pub loop-next-preserved : goal.loop-next-preserved
+loop-next-preserved c =
+    let w = given c.loop-next.invariant.bytes c.in-Some.ensures.steps (sym (ap result_ok c.in-Ok.is)) in
+    record {
+      bytes = w.bytes;
+      passed = rw w.place (passed_more _ _ _ _ _ _ c.loop-next.invariant.passed _ w.here _ c.still_distinct-distinct.ensures c.still_short-short.ensures);
+    }
 
-pub loop-t-smaller : goal.loop-t-smaller
-loop-t-smaller c =
-    let found : statement_at c.args.s.now c.loop-t.at ≡ One c.in-One.t = sym c.statement_at.ensures ∙ c.in-One.is in
-    let lies : (c.loop-t.at < c.in-One.t.end)
-    × (c.in-One.t.end < length c.args.s.now)
-    × (c.in-One.t.first ≤ c.in-One.t.equals)
-    × (c.in-One.t.equals < c.in-One.t.end) = statement-lies _ _ _ (found) in
-    omega (arith, lies)
-
-pub loop-t-preserved : goal.loop-t-preserved
-loop-t-preserved c =
-    let found : statement_at c.args.s.now c.loop-t.at ≡ One c.in-One.t = sym c.statement_at.ensures ∙ c.in-One.is in (
-      search rules,
-      passed_more _ _ _ _ _ _ c.loop-t.invariant.1 _ found _ c.still_distinct-distinct.ensures c.still_short-short.ensures,
-    )
+pub returns : goal.returns
+returns c =
+    let w = ended c.loop-next.invariant.bytes c.in-None.ensures.steps in
+    c.answer.ensures ∙ sym (passed_end _ _ _ _ _ _ c.loop-next.invariant.passed _ w)

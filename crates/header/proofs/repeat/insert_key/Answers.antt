@@ -9,7 +9,7 @@ returns-then-insert c =
     key_looked_up _ _ _ _ _ _ _ c.hash_key-h.ensures c.slot_of.ensures c.insert.ensures
     c.is_earlier.ensures
 
-pub returns : goal.returns
-returns c =
-    key_new _ _ _ _ _ _ _ c.hash_key-h.ensures c.slot_of.ensures
-    (subst (Inserted _ _ _ _) c.if-insert.false c.insert.ensures)
+pub returns-else-insert : goal.returns-else-insert
+returns-else-insert c =
+    rw c.if-insert.false
+    (key_new _ _ _ _ _ _ _ c.hash_key-h.ensures c.slot_of.ensures (subst (Inserted _ _ _ _) c.if-insert.false c.insert.ensures))

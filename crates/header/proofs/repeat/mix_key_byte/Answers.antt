@@ -23,7 +23,7 @@ pub returns-then-is_whitespace : goal.returns-then-is_whitespace
 unfolding mixed_key_byte
 returns-then-is_whitespace c = rw (sym c.is_whitespace.ensures ∙ c.if-is_whitespace.true)
 
-pub returns : goal.returns
+pub returns-else-is_whitespace : goal.returns-else-is_whitespace
 unfolding mixed_key_byte
-returns c =
-    rw (sym c.is_whitespace.ensures ∙ c.if-is_whitespace.false, sym (fold_low c.args.b (omega arith))) c.mix-2.ensures
+returns-else-is_whitespace c =
+    rw (sym c.is_whitespace.ensures ∙ c.if-is_whitespace.false, sym (fold_low c.args.b (omega arith))) c.mix-else-is_whitespace.ensures

@@ -1,50 +1,45 @@
 -- `header::statements::statement_at` meets its contract: its steps are those of `statement_at`.
 use mathlib.Core.Path.{sym, ◌∙◌}
-use native.Mathlib.Omega.{arith}
+use Rattle.std.proofs.Common.{rules}
+use Rattle.header.specs.Checks.{separator}
 use Rattle.header.proofs.StatementSteps.{nothing_more, no-separator, mark_inside, semicolon_first, empty_key}
 use Rattle.header.proofs.StatementSteps.{unended, whole_statement}
 use Rattle.header.proofs.statements.statement_at.Goals as goal
+use Rattle.header.proofs.statements.statement_at.Goals.{then-s-equals-ne61-via-then-s-equals-ne61, then-s-equals-ne61-via-else-s-equals-ne61+then-equals-first}
 
 pub returns-in_default : goal.returns-in_default
 returns-in_default c = sym (nothing_more _ _ (sym c.find_visible.ensures ∙ c.in_default.is))
 
-pub returns-in_default-find_separator : goal.returns-in_default-find_separator
-returns-in_default-find_separator c =
-    let seen = sym c.find_visible.ensures ∙ c.in-At.is in
-    sym (no-separator _ _ seen (sym c.find_separator.ensures ∙ c.in_default-find_separator.is))
+pub returns-in_err-equals : goal.returns-in_err-equals
+returns-in_err-equals c =
+    let seen = sym c.find_visible.ensures ∙ c.in-Some.is in
+    let none = sym (c.find_where.ensures separator (λ b r q. q)) ∙ c.in_err-equals.ensures.ok_part in
+    rw (no-separator _ _ seen none) (search rules)
 
 pub bounds-s-equals : goal.bounds-s-equals
 bounds-s-equals c =
-    let seen = sym c.find_visible.ensures ∙ c.in-At.is in
-    let mark = sym c.find_separator.ensures ∙ c.in-At-find_separator.is in
+    let seen = sym c.find_visible.ensures ∙ c.in-Some.is in
+    let mark = sym (c.find_where.ensures separator (λ b r q. q)) ∙ c.in_ok-equals.ensures.ok_part in
     (mark_inside _ _ seen mark).1
 
 pub returns-then-s-equals-ne61 : goal.returns-then-s-equals-ne61
 returns-then-s-equals-ne61 c =
-    let seen = sym c.find_visible.ensures ∙ c.in-At.is in
-    let mark = sym c.find_separator.ensures ∙ c.in-At-find_separator.is in
-    sym (semicolon_first _ _ seen mark c.if-s-equals-ne61.true)
+    let seen = sym c.find_visible.ensures ∙ c.in-Some.is in
+    let mark = sym (c.find_where.ensures separator (λ b r q. q)) ∙ c.in_ok-equals.ensures.ok_part in
+    elim c.then-s-equals-ne61.branch [
+      | then-s-equals-ne61-via-then-s-equals-ne61 w ↦ sym (semicolon_first _ _ seen mark w.if-s-equals-ne61.true)
+      | then-s-equals-ne61-via-else-s-equals-ne61+then-equals-first w ↦
+          sym (empty_key _ _ seen mark w.if-s-equals-ne61.false w.if-equals-first.true)
+    ]
 
-pub returns-then-equals-first : goal.returns-then-equals-first
-returns-then-equals-first c =
-    let seen = sym c.find_visible.ensures ∙ c.in-At.is in
-    let mark = sym c.find_separator.ensures ∙ c.in-At-find_separator.is in
-    sym (empty_key _ _ seen mark c.if-s-equals-ne61.false c.if-equals-first.true)
-
-pub overflow_add-value : goal.overflow_add-value
-overflow_add-value c =
-    let seen = sym c.find_visible.ensures ∙ c.in-At.is in
-    let mark = sym c.find_separator.ensures ∙ c.in-At-find_separator.is in
-    omega (arith, mark_inside _ _ seen mark)
-
-pub returns-in_default-find : goal.returns-in_default-find
-returns-in_default-find c =
-    let seen = sym c.find_visible.ensures ∙ c.in-At.is in
-    let mark = sym c.find_separator.ensures ∙ c.in-At-find_separator.is in
-    sym (unended _ _ seen mark c.if-s-equals-ne61.false (sym c.find.ensures ∙ c.in_default-find.is))
+pub returns-in_err-end : goal.returns-in_err-end
+returns-in_err-end c =
+    let seen = sym c.find_visible.ensures ∙ c.in-Some.is in
+    let mark = sym (c.find_where.ensures separator (λ b r q. q)) ∙ c.in_ok-equals.ensures.ok_part in
+    rw (unended _ _ seen mark c.if-s-equals-ne61.false (sym c.find.ensures ∙ c.in_err-end.ensures.ok_part)) (search rules)
 
 pub returns : goal.returns
 returns c =
-    let seen = sym c.find_visible.ensures ∙ c.in-At.is in
-    let mark = sym c.find_separator.ensures ∙ c.in-At-find_separator.is in
-    sym (whole_statement _ _ seen mark c.if-s-equals-ne61.false c.if-equals-first.false (sym c.find.ensures ∙ c.in-At-find.is))
+    let seen = sym c.find_visible.ensures ∙ c.in-Some.is in
+    let mark = sym (c.find_where.ensures separator (λ b r q. q)) ∙ c.in_ok-equals.ensures.ok_part in
+    sym (whole_statement _ _ seen mark c.if-s-equals-ne61.false c.if-equals-first.false (sym c.find.ensures ∙ c.in_ok-end.ensures.ok_part))

@@ -1,27 +1,18 @@
 -- `judging::lengths::header_size` meets its contract.
-use mathlib.Core.Path.{sym, ap, ◌∙◌}
-use native.Mathlib.Omega.{arith}
-use Rattle.header.specs.Answers.{sought_option}
-use Rattle.blocks.specs.Keys.{HeaderSizeKey}
-use Rattle.reading.proofs.CountingLaws.{counting_stands}
-use Rattle.reading.proofs.SoughtLaws.{folded, counting_none, counting_some, absent_one, counted_two}
+use Rattle.std.proofs.Common.{refl, sym, ap, ◌∙◌}
+use Rattle.blocks.specs.Counting.{counting_in}
+use Rattle.header.specs.Entries.{value_in}
+use Rattle.reading.specs.Entries.{entries_from}
 use Rattle.reading.proofs.SizeLaws.{said_absent, said_value}
+use Rattle.reading.proofs.SoughtLaws.{folded}
 use Rattle.judging.proofs.lengths.header_size.Goals as goal
 
-pub returns-then-kind-eq1 : goal.returns-then-kind-eq1
-returns-then-kind-eq1 c = said_absent _ (absent_one _ _ HeaderSizeKey c.if-kind-eq1.true)
+pub returns-in-None : goal.returns-in-None
+returns-in-None c =
+    said_absent _ (ap (λ k. value_in k (counting_in c.args.kind (entries_from c.args.s.now c.args.from))) (sym folded.header_size)
+    ∙ sym c.in-None.ensures)
 
-pub value_bytes-requires : goal.value_bytes-requires
-value_bytes-requires c =
-    let q = counting_stands _ _ _ _ (sym c.find_counting.ensures ∙ ap sought_option c.in-At.is) in (q.0.value_after, omega (arith, q.1))
-
-pub returns-in-Missing : goal.returns-in-Missing
-returns-in-Missing c =
-    said_absent _ (counted_two _ _ HeaderSizeKey c.if-kind-eq1.false folded.header_size
-    (counting_none _ _ _ (sym (ap sought_option c.in-Missing.is) ∙ c.find_counting.ensures)))
-
-pub returns-in-At : goal.returns-in-At
-returns-in-At c =
-    said_value _ (counted_two _ _ HeaderSizeKey c.if-kind-eq1.false folded.header_size
-    (counting_some _ _ _ (sym (ap sought_option c.in-At.is) ∙ c.find_counting.ensures)))
-    _ c.value_bytes.ensures c.size_said.ensures
+pub returns-in-Some : goal.returns-in-Some
+returns-in-Some c =
+    said_value _ (ap (λ k. value_in k (counting_in c.args.kind (entries_from c.args.s.now c.args.from))) (sym folded.header_size)
+    ∙ sym c.in-Some.ensures) _ refl c.size_said.ensures

@@ -1,25 +1,19 @@
-use Rattle.append.proofs.Appending.{appended_length}
-use Rattle.listing.proofs.Listed.{listed_none, listed_row, listed_file}
-use Rattle.listing.proofs.RowLaws.{is_row}
+-- `listing::list::block_lines` meets its contract.
 use native.Mathlib.Omega.{arith}
+use Rattle.append.proofs.Appending.{within_then, within_is, within_more, within_nothing}
+use Rattle.listing.proofs.RowLaws.{is_row}
+use Rattle.listing.specs.Listing.{block_lines}
+use Rattle.listing.proofs.Listed.{lines_more}
 use Rattle.listing.proofs.list.block_lines.Goals as goal
 
-pub loop-i-init : goal.loop-i-init
-loop-i-init c =
-    ((omega arith, omega arith), listed_none _ _ _ _ (omega arith))
+pub loop-number-init : goal.loop-number-init
+unfolding block_lines
+loop-number-init c = within_nothing (omega arith)
 
-pub block_line-next-requires : goal.block_line-next-requires
-block_line-next-requires c =
-    record { row = is_row _ c.requires.file_rows c.loop-i.i (omega arith) _; block_line_most_in_bounds = omega (arith, appended_length c.loop-i.invariant.1.stands) }
+pub block_line-requires-clause-row : goal.block_line-requires-clause-row
+block_line-requires-clause-row c = is_row _ c.requires.file_rows c.loop-number.number (omega arith) _
 
-pub loop-i-preserved : goal.loop-i-preserved
-loop-i-preserved c =
-    ((omega arith, omega (arith, c.block_line-next.ensures.upper_bound)), listed_row _ c.requires.file_rows c.loop-i.i (omega arith) _ c.loop-i.invariant.1 c.block_line-next.ensures.appended)
-
-pub shape_of-out : goal.shape_of-out
-shape_of-out c =
-    omega (arith, appended_length c.loop-i.invariant.1.stands)
-
-pub returns : goal.returns
-returns c =
-    listed_file _ c.requires.file_rows c.loop-i.invariant.1 (omega arith)
+pub loop-number-preserved : goal.loop-number-preserved
+loop-number-preserved c =
+    within_is (lines_more _ c.loop-number.number c.args.rows.now _ (omega arith))
+    (within_more (omega arith) (within_then c.loop-number.invariant c.block_line.ensures))

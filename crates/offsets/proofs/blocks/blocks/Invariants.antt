@@ -1,15 +1,10 @@
 -- `offsets::blocks::blocks` meets its contract. The invariant: the first i elements are written.
-use mathlib.Core.Path.{◌≡◌}
-use Prim.Native.Nat.{◌-◌, ◌≤◌}
-use lib.ListN.{length}
+use Rattle.std.proofs.Common.{◌≡◌, ◌≤◌}
 use Rattle.scan.specs.Buffer.{over}
 use Rattle.raster.specs.Strided.{row_of}
-use Rattle.shift.specs.Shifting.{shifted_bytes}
+use Rattle.shift.specs.Adding.{added}
 use Rattle.offsets.proofs.blocks.blocks.Given as goal
 
 abbrev pub invariant-loop-i : goal.invariant-loop-i
-invariant-loop-i l =
-    (l.i ≤ l.n) × (length l.out ≡ length l.initial.out) × (l.out ≡ over (row_of (shifted_bytes l.w l.s l.order l.asked) l.w l.src l.at l.up l.down l.i) l.initial.out)
-
-abbrev pub decreases-loop-i : goal.decreases-loop-i
-decreases-loop-i l = l.n - l.i
+invariant-loop-i g l =
+    (l.i ≤ l.row.count) × (l.out ≡ over (row_of (added g.row.W l.a) g.row.W l.src l.row.at l.row.up l.row.down l.i) l.initial.out)

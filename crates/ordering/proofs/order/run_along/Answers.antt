@@ -17,5 +17,5 @@ overflow_mul-result c =
 pub returns-then-d : goal.returns-then-d
 returns-then-d c = backward_run (shape_dims c.args.s) c.args.w c.args.d.index c.dim_at-dim.ensures c.stride_at-stride.ensures c.if-d.true
 
-pub returns : goal.returns
-returns c = forward_run (shape_dims c.args.s) c.args.w c.args.d.index c.dim_at-dim.ensures c.stride_at-stride.ensures c.if-d.false
+pub returns-else-d : goal.returns-else-d
+returns-else-d c = forward_run (shape_dims c.args.s) c.args.w c.args.d.index c.dim_at-dim.ensures c.stride_at-stride.ensures c.if-d.false

@@ -1,124 +1,39 @@
-use mathlib.Core.Path.{◌≡◌, sym, ◌∙◌}
-use mathlib.Core.Bool.{true}
-use Prim.Native.Nat.{◌-◌, ◌≤◌, ◌<◌}
-use native.Mathlib.Omega.{arith}
-use lib.ListN.{length, take, drop}
-use Rattle.text.specs.Key.{key_of}
-use Rattle.header.specs.Statements.{statement_at}
-use Rattle.header.specs.declared.Next.TheVariants.{One}
-use Rattle.header.proofs.Leading.{statement-lies, part-key}
-use Rattle.blocks.specs.Counting.{is_edf_key}
+use Rattle.std.proofs.Common.{sym, ◌∙◌, arith}
+use Rattle.header.proofs.WalkSteps.{given, broken, ended}
 use Rattle.reading.proofs.CountingLaws.{counting_end, counting_malformed, counting_stops, counting_hit, counting_miss}
 use Rattle.reading.proofs.keys.find_counting.Goals as goal
 
-pub returns-in-End : goal.returns-in-End
-returns-in-End c =
-    sym (c.loop-t.invariant ∙ counting_end _ _ _ (sym c.statement_at.ensures ∙ c.in-End.is))
+pub returns-in_err-t : goal.returns-in_err-t
+returns-in_err-t c =
+    let w = broken c.loop-next.invariant.bytes c.in-Some.ensures.steps c.in_err-t.ensures.value in
+    c.from_residual.ensures ∙ sym (c.loop-next.invariant.found ∙ counting_malformed _ _ _ w)
 
-pub returns-in-Malformed : goal.returns-in-Malformed
-returns-in-Malformed c =
-    sym (c.loop-t.invariant ∙ counting_malformed _ _ _ (sym c.statement_at.ensures ∙ c.in-Malformed.is))
-
-pub slice_bounds-is_edf_key-count : goal.slice_bounds-is_edf_key-count
-slice_bounds-is_edf_key-count c =
-    let found : statement_at c.args.s.now c.loop-t.i ≡ One c.in-One.t = sym c.statement_at.ensures ∙ c.in-One.is in
-    let lies : (c.loop-t.i < c.in-One.t.end)
-    × (c.in-One.t.end < length c.args.s.now)
-    × (c.in-One.t.first ≤ c.in-One.t.equals)
-    × (c.in-One.t.equals < c.in-One.t.end) = statement-lies _ _ _ (found) in
-    omega (arith, lies)
-
-pub slice_bounds-is_edf_key-start : goal.slice_bounds-is_edf_key-start
-slice_bounds-is_edf_key-start c =
-    let found : statement_at c.args.s.now c.loop-t.i ≡ One c.in-One.t = sym c.statement_at.ensures ∙ c.in-One.is in
-    let lies : (c.loop-t.i < c.in-One.t.end)
-    × (c.in-One.t.end < length c.args.s.now)
-    × (c.in-One.t.first ≤ c.in-One.t.equals)
-    × (c.in-One.t.equals < c.in-One.t.end) = statement-lies _ _ _ (found) in
-    omega (arith, lies)
-
-pub slice_bounds-is_edf_key-end : goal.slice_bounds-is_edf_key-end
-slice_bounds-is_edf_key-end c =
-    let found : statement_at c.args.s.now c.loop-t.i ≡ One c.in-One.t = sym c.statement_at.ensures ∙ c.in-One.is in
-    let lies : (c.loop-t.i < c.in-One.t.end)
-    × (c.in-One.t.end < length c.args.s.now)
-    × (c.in-One.t.first ≤ c.in-One.t.equals)
-    × (c.in-One.t.equals < c.in-One.t.end) = statement-lies _ _ _ (found) in
-    omega (arith, lies)
+pub key_bytes-key-requires : goal.key_bytes-key-requires
+key_bytes-key-requires c =
+    let w = given c.loop-next.invariant.bytes c.in-Some.ensures.steps c.in_ok-t.ensures.value in
+    (w.key_order, omega arith)
 
 pub returns-then-not-is_edf_key : goal.returns-then-not-is_edf_key
 returns-then-not-is_edf_key c =
-    let found : statement_at c.args.s.now c.loop-t.i ≡ One c.in-One.t = sym c.statement_at.ensures ∙ c.in-One.is in
-    let lies : (c.loop-t.i < c.in-One.t.end)
-    × (c.in-One.t.end < length c.args.s.now)
-    × (c.in-One.t.first ≤ c.in-One.t.equals)
-    × (c.in-One.t.equals < c.in-One.t.end) = statement-lies _ _ _ (found) in
-    sym (c.loop-t.invariant
-    ∙ counting_stops _ _ _ _ found _ (part-key _ _ lies.2) (sym c.is_edf_key.ensures ∙ c.if-not-is_edf_key.true))
-
-pub slice_bounds-same_key-count : goal.slice_bounds-same_key-count
-slice_bounds-same_key-count c =
-    let found : statement_at c.args.s.now c.loop-t.i ≡ One c.in-One.t = sym c.statement_at.ensures ∙ c.in-One.is in
-    let lies : (c.loop-t.i < c.in-One.t.end)
-    × (c.in-One.t.end < length c.args.s.now)
-    × (c.in-One.t.first ≤ c.in-One.t.equals)
-    × (c.in-One.t.equals < c.in-One.t.end) = statement-lies _ _ _ (found) in
-    omega (arith, lies)
-
-pub slice_bounds-same_key-start : goal.slice_bounds-same_key-start
-slice_bounds-same_key-start c =
-    let found : statement_at c.args.s.now c.loop-t.i ≡ One c.in-One.t = sym c.statement_at.ensures ∙ c.in-One.is in
-    let lies : (c.loop-t.i < c.in-One.t.end)
-    × (c.in-One.t.end < length c.args.s.now)
-    × (c.in-One.t.first ≤ c.in-One.t.equals)
-    × (c.in-One.t.equals < c.in-One.t.end) = statement-lies _ _ _ (found) in
-    omega (arith, lies)
-
-pub slice_bounds-same_key-end : goal.slice_bounds-same_key-end
-slice_bounds-same_key-end c =
-    let found : statement_at c.args.s.now c.loop-t.i ≡ One c.in-One.t = sym c.statement_at.ensures ∙ c.in-One.is in
-    let lies : (c.loop-t.i < c.in-One.t.end)
-    × (c.in-One.t.end < length c.args.s.now)
-    × (c.in-One.t.first ≤ c.in-One.t.equals)
-    × (c.in-One.t.equals < c.in-One.t.end) = statement-lies _ _ _ (found) in
-    omega (arith, lies)
+    let w = given c.loop-next.invariant.bytes c.in-Some.ensures.steps c.in_ok-t.ensures.value in
+    sym (c.loop-next.invariant.found
+    ∙ counting_stops _ _ _ _ w.here _ c.key_bytes-key.ensures (sym c.is_edf_key.ensures ∙ c.if-not-is_edf_key.true))
 
 pub returns-then-same_key : goal.returns-then-same_key
 returns-then-same_key c =
-    let found : statement_at c.args.s.now c.loop-t.i ≡ One c.in-One.t = sym c.statement_at.ensures ∙ c.in-One.is in
-    let lies : (c.loop-t.i < c.in-One.t.end)
-    × (c.in-One.t.end < length c.args.s.now)
-    × (c.in-One.t.first ≤ c.in-One.t.equals)
-    × (c.in-One.t.equals < c.in-One.t.end) = statement-lies _ _ _ (found) in
-    let edf : is_edf_key (key_of (take (c.in-One.t.equals - c.in-One.t.first) (drop c.in-One.t.first c.args.s.now))) ≡ true = sym c.is_edf_key.ensures ∙ c.if-not-is_edf_key.false in
-    sym (c.loop-t.invariant
-    ∙ counting_hit _ _ _ _ found _ (part-key _ _ lies.2) edf (sym c.same_key.ensures ∙ c.if-same_key.true))
+    let w = given c.loop-next.invariant.bytes c.in-Some.ensures.steps c.in_ok-t.ensures.value in
+    sym (c.loop-next.invariant.found
+    ∙ counting_hit _ _ _ _ w.here _ c.key_bytes-key.ensures (sym c.is_edf_key.ensures ∙ c.if-not-is_edf_key.false)
+    (sym c.same_key.ensures ∙ c.if-same_key.true))
 
-pub overflow_add-i : goal.overflow_add-i
-overflow_add-i c =
-    let found : statement_at c.args.s.now c.loop-t.i ≡ One c.in-One.t = sym c.statement_at.ensures ∙ c.in-One.is in
-    let lies : (c.loop-t.i < c.in-One.t.end)
-    × (c.in-One.t.end < length c.args.s.now)
-    × (c.in-One.t.first ≤ c.in-One.t.equals)
-    × (c.in-One.t.equals < c.in-One.t.end) = statement-lies _ _ _ (found) in
-    omega (arith, lies)
+pub loop-next-preserved : goal.loop-next-preserved
+loop-next-preserved c =
+    let w = given c.loop-next.invariant.bytes c.in-Some.ensures.steps c.in_ok-t.ensures.value in
+    let on = counting_miss _ _ _ _ w.here _ c.key_bytes-key.ensures (sym c.is_edf_key.ensures ∙ c.if-not-is_edf_key.false)
+    (sym c.same_key.ensures ∙ c.if-same_key.false) in
+    record { bytes = w.bytes; found = rw w.place (c.loop-next.invariant.found ∙ on) }
 
-pub loop-t-smaller : goal.loop-t-smaller
-loop-t-smaller c =
-    let found : statement_at c.args.s.now c.loop-t.i ≡ One c.in-One.t = sym c.statement_at.ensures ∙ c.in-One.is in
-    let lies : (c.loop-t.i < c.in-One.t.end)
-    × (c.in-One.t.end < length c.args.s.now)
-    × (c.in-One.t.first ≤ c.in-One.t.equals)
-    × (c.in-One.t.equals < c.in-One.t.end) = statement-lies _ _ _ (found) in
-    omega (arith, lies)
-
-pub loop-t-preserved : goal.loop-t-preserved
-loop-t-preserved c =
-    let found : statement_at c.args.s.now c.loop-t.i ≡ One c.in-One.t = sym c.statement_at.ensures ∙ c.in-One.is in
-    let lies : (c.loop-t.i < c.in-One.t.end)
-    × (c.in-One.t.end < length c.args.s.now)
-    × (c.in-One.t.first ≤ c.in-One.t.equals)
-    × (c.in-One.t.equals < c.in-One.t.end) = statement-lies _ _ _ (found) in
-    let edf : is_edf_key (key_of (take (c.in-One.t.equals - c.in-One.t.first) (drop c.in-One.t.first c.args.s.now))) ≡ true = sym c.is_edf_key.ensures ∙ c.if-not-is_edf_key.false in
-    c.loop-t.invariant
-    ∙ counting_miss _ _ _ _ found _ (part-key _ _ lies.2) edf (sym c.same_key.ensures ∙ c.if-same_key.false)
+pub returns : goal.returns
+returns c =
+    let w = ended c.loop-next.invariant.bytes c.in-None.ensures.steps in
+    sym (c.loop-next.invariant.found ∙ counting_end _ _ _ w)

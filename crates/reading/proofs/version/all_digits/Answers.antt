@@ -1,15 +1,11 @@
-use mathlib.Core.Path.{sym, ◌∙◌}
+use Rattle.std.proofs.Common.{sym, ◌∙◌, rules, tests}
+use Rattle.std.proofs.lemmas.Iterator.{YieldsList-from_slice}
+use Rattle.std.proofs.lemmas.Iterator.Search.{all_from_yields_List}
 use Rattle.text.specs.Number.{digit}
-use Rattle.text.proofs.Escaping.{passes_here, fails_here, passed_all}
+use Rattle.reading.proofs.VersionSteps.{every_all}
 use Rattle.reading.proofs.version.all_digits.Goals as goal
 
-pub returns-then-not-is_digit : goal.returns-then-not-is_digit
-returns-then-not-is_digit c =
-    sym (c.loop-i.invariant
-    ∙ fails_here digit _ _ c.loop-i-test.true (sym c.is_digit.ensures ∙ c.if-not-is_digit.true))
-
-pub loop-i-preserved : goal.loop-i-preserved
-loop-i-preserved c = c.loop-i.invariant ∙ passes_here digit _ _ c.loop-i-test.true (sym c.is_digit.ensures ∙ c.if-not-is_digit.false)
-
 pub returns : goal.returns
-returns c = sym (c.loop-i.invariant ∙ passed_all digit _ _ c.loop-i-test.false)
+returns c =
+    all_from_yields_List digit _ _ _ c.all.ensures.ran (YieldsList-from_slice c.args.l.now cc) (λ x b q k. search (rules, tests))
+    ∙ sym (every_all digit c.args.l.now)

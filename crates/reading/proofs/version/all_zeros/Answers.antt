@@ -1,14 +1,11 @@
-use mathlib.Core.Path.{sym, ◌∙◌}
-use borrow.Author.Tests.{eq-eqb, ne_eqb}
+use Rattle.std.proofs.Common.{sym, ◌∙◌, rules, tests}
+use Rattle.std.proofs.lemmas.Iterator.{YieldsList-from_slice}
+use Rattle.std.proofs.lemmas.Iterator.Search.{all_from_yields_List}
 use Rattle.scan.specs.Search.{is}
-use Rattle.text.proofs.Escaping.{passes_here, fails_here, passed_all}
+use Rattle.reading.proofs.VersionSteps.{every_all}
 use Rattle.reading.proofs.version.all_zeros.Goals as goal
 
-pub returns-then-l-i-ne48 : goal.returns-then-l-i-ne48
-returns-then-l-i-ne48 c = sym (c.loop-i.invariant ∙ fails_here (is 48) _ _ c.loop-i-test.true (ne_eqb _ _ c.if-l-i-ne48.true))
-
-pub loop-i-preserved : goal.loop-i-preserved
-loop-i-preserved c = c.loop-i.invariant ∙ passes_here (is 48) _ _ c.loop-i-test.true (eq-eqb _ _ c.if-l-i-ne48.false)
-
 pub returns : goal.returns
-returns c = sym (c.loop-i.invariant ∙ passed_all (is 48) _ _ c.loop-i-test.false)
+returns c =
+    all_from_yields_List (is 48) _ _ _ c.all.ensures.ran (YieldsList-from_slice c.args.l.now cc) (λ x b q k. search (rules, tests))
+    ∙ sym (every_all (is 48) c.args.l.now)

@@ -1,35 +1,27 @@
--- `scaling::digits::coefficient` meets its contract.
-use mathlib.Core.Path.{◌≡◌, sym, ap, ◌∙◌}
-use mathlib.Core.List.{◌++◌}
-use mathlib.Core.Option.{some}
-use Rattle.text.specs.Number.{natural, digits_from}
-use Rattle.scaling.specs.Answers.{digits_option}
+use Rattle.std.proofs.Common.{◌+◌, ◌<◌, ◌∙◌, ap, length, arith}
+use Rattle.std.proofs.lemmas.Bool.Decides.{nat_tests}
+use Rattle.text.specs.Number.{digits_from}
 use Rattle.scaling.specs.Capped.{capped}
-use Rattle.scaling.proofs.DigitLaws.{further_digits, joined, some_digit, no_digit, kept_le, second, first_bad}
-use Rattle.scaling.proofs.digits.coefficient.Goals.{then-whole-eq0+else-fraction-eq0, else-whole-eq0}
+use Rattle.scaling.proofs.DigitLaws.{no_digit, kept_le, second, first_bad, parts_natural}
 use Rattle.scaling.proofs.digits.coefficient.Goals as goal
+use Rattle.scaling.proofs.digits.coefficient.Goals.{else-is_empty-via-then-is_empty+else-is_empty-2, else-is_empty-via-else-is_empty}
 
-pub returns-then-fraction-eq0 : goal.returns-then-fraction-eq0
-returns-then-fraction-eq0 c = no_digit c.args.whole.now c.args.fraction.now c.if-whole-eq0.true c.if-fraction-eq0.true
+pub returns-then-is_empty-2 : goal.returns-then-is_empty-2
+returns-then-is_empty-2 c = no_digit c.args.whole.now c.args.fraction.now (grind (arith, nat_tests)) (grind (arith, nat_tests))
 
-pub further-requires-in-Value : goal.further-requires-in-Value
-further-requires-in-Value c =
-    let first : some c.in-Value.n ≡ capped (digits_from 0 c.args.whole.now) = sym (ap digits_option c.in-Value.is) ∙ c.further.ensures in
-    kept_le c.in-Value.n
-    (digits_from 0 c.args.whole.now) first
+pub returns-in_err-further : goal.returns-in_err-further
+returns-in_err-further c =
+    let whole = c.args.whole.now in
+    let fraction = c.args.fraction.now in
+    let some : 0 < length whole + length fraction = elim c.else-is_empty.branch [ else-is_empty-via-then-is_empty+else-is_empty-2 w ↦ grind (arith, nat_tests) | else-is_empty-via-else-is_empty w ↦ grind (arith, nat_tests) ] in
+    c.from_residual.ensures ∙ first_bad (digits_from 0 whole) fraction c.in_err-further.ensures ∙ ap capped (parts_natural whole fraction some)
 
-pub returns-in-Value : goal.returns-in-Value
-returns-in-Value c =
-    let whole_is : further_digits (digits_from 0 c.args.whole.now) c.args.fraction.now ≡ natural (c.args.whole.now ++ c.args.fraction.now) = let digit = some_digit c.args.whole.now c.args.fraction.now (λ h g. elim c.if-whole-eq0.branch [ then-whole-eq0+else-fraction-eq0 w ↦ w.if-fraction-eq0.false g | else-whole-eq0 w ↦ w.if-whole-eq0.false h ]) in
-    sym (digit ∙ joined 0 c.args.whole.now c.args.fraction.now) in
-    let first : some c.in-Value.n ≡ capped (digits_from 0 c.args.whole.now) = sym (ap digits_option c.in-Value.is) ∙ c.further.ensures in
-    c.further-in-Value.ensures
-    ∙ second c.in-Value.n (digits_from 0 c.args.whole.now) c.args.fraction.now first
-    ∙ ap capped whole_is
+pub further-requires-2 : goal.further-requires-2
+further-requires-2 c = kept_le _ (digits_from 0 c.args.whole.now) c.in_ok-further.ensures
 
-pub returns-in-Invalid : goal.returns-in-Invalid
-returns-in-Invalid c =
-    let whole_is : further_digits (digits_from 0 c.args.whole.now) c.args.fraction.now ≡ natural (c.args.whole.now ++ c.args.fraction.now) = let digit = some_digit c.args.whole.now c.args.fraction.now (λ h g. elim c.if-whole-eq0.branch [ then-whole-eq0+else-fraction-eq0 w ↦ w.if-fraction-eq0.false g | else-whole-eq0 w ↦ w.if-whole-eq0.false h ]) in
-    sym (digit ∙ joined 0 c.args.whole.now c.args.fraction.now) in
-    first_bad (digits_from 0 c.args.whole.now) c.args.fraction.now (sym (ap digits_option c.in-Invalid.is) ∙ c.further.ensures)
-    ∙ ap capped whole_is
+pub returns : goal.returns
+returns c =
+    let whole = c.args.whole.now in
+    let fraction = c.args.fraction.now in
+    let some : 0 < length whole + length fraction = elim c.else-is_empty.branch [ else-is_empty-via-then-is_empty+else-is_empty-2 w ↦ grind (arith, nat_tests) | else-is_empty-via-else-is_empty w ↦ grind (arith, nat_tests) ] in
+    c.further-2.ensures ∙ second _ (digits_from 0 whole) fraction c.in_ok-further.ensures ∙ ap capped (parts_natural whole fraction some)

@@ -1,18 +1,10 @@
-use mathlib.Core.Path.{◌≡◌, refl, sym, ap, ◌∙◌}
-use mathlib.Core.List.{[]}
-use Prim.Native.Nat.{ℕ, ◌-◌}
+use mathlib.Core.Path.{◌∙◌}
+use Prim.Native.Nat.{◌-◌}
 use native.Mathlib.Omega.{arith}
-use lib.ListN.{drop, length-set}
-use lib.Seq.{drop-length}
-use Rattle.text.specs.Decimal.{digits_of}
+use lib.ListN.{length-set}
 use Rattle.text.proofs.DigitWriting.{front_kept, more, less, turn, last}
 use borrow.Author.Rules.{rules}
 use Rattle.text.proofs.decimal.put_digits.Goals as goal
-
-pub loop-rest-init : goal.loop-rest-init
-loop-rest-init c =
-    let none : drop 20 c.args.out.now ≡ [] = ap (λ (k : ℕ). drop k c.args.out.now) (sym c.requires.1) ∙ drop-length c.args.out.now in
-    (search rules, search rules, c.requires.1, omega arith, ap (digits_of 19 c.args.n) none, refl)
 
 pub loop-rest-preserved : goal.loop-rest-preserved
 loop-rest-preserved c =
@@ -24,9 +16,6 @@ loop-rest-preserved c =
       turn c.loop-rest.i c.loop-rest.rest c.loop-rest.out c.loop-rest.invariant.0 (omega arith) c.loop-rest-test.true ∙ c.loop-rest.invariant.4,
       front_kept (c.loop-rest.i - 1) c.loop-rest.i c.loop-rest.i _ c.loop-rest.out _ (omega arith) (omega arith) c.loop-rest.invariant.5,
     )
-
-pub shape_of-out : goal.shape_of-out
-shape_of-out c = simp length-set (omega arith)
 
 pub returns : goal.returns
 returns c =

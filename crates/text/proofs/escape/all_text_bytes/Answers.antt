@@ -1,23 +1,12 @@
-use mathlib.Core.Path.{refl, sym, ◌∙◌}
-use borrow.Author.Rules.{rules}
+use Rattle.std.proofs.Common.{◌∙◌, rules, tests}
+use Rattle.std.proofs.lemmas.Iterator.{YieldsList-from_slice}
+use Rattle.std.proofs.lemmas.Iterator.Search.{all_from_yields_List}
 use Rattle.text.specs.Text.{text_byte}
-use Rattle.text.proofs.Escaping.{passes_here, fails_here, passed_all}
+use Rattle.text.proofs.Everys.{list_all-every}
 use Rattle.text.proofs.escape.all_text_bytes.Goals as goal
 
-pub loop-i-init : goal.loop-i-init
-loop-i-init c = (search rules, refl)
-
-pub returns-then-not-is_text_byte : goal.returns-then-not-is_text_byte
-returns-then-not-is_text_byte c =
-    sym (fails_here text_byte _ c.loop-i.i c.loop-i-test.true (sym c.is_text_byte.ensures ∙ c.if-not-is_text_byte.true))
-    ∙ c.loop-i.invariant.1
-
-pub loop-i-preserved : goal.loop-i-preserved
-loop-i-preserved c = (
-  search rules,
-  sym (passes_here text_byte _ c.loop-i.i c.loop-i-test.true (sym c.is_text_byte.ensures ∙ c.if-not-is_text_byte.false))
-      ∙ c.loop-i.invariant.1,
-)
-
 pub returns : goal.returns
-returns c = sym (passed_all text_byte _ c.loop-i.i c.loop-i-test.false) ∙ c.loop-i.invariant.1
+returns c =
+    let l = c.args.l.now in
+    all_from_yields_List text_byte _ _ c.all.result c.all.ensures.ran (YieldsList-from_slice l cc) (λ x r q k. search (rules, tests))
+    ∙ list_all-every text_byte l

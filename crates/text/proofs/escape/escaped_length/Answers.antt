@@ -1,18 +1,13 @@
-use mathlib.Core.Path.{ap}
-use native.Mathlib.Omega.{arith}
-use lib.ListN.{length}
-use Rattle.text.proofs.Escaping.{with_letter, without_letter, escaped_end}
+use Rattle.std.proofs.Common.{◌≡◌, ◌+◌, ◌∙◌, ap, length, rules, tests, ℕ}
+use Rattle.std.specs.List.{filter}
+use Rattle.std.proofs.lemmas.Iterator.{YieldsList-from_slice}
+use Rattle.std.proofs.lemmas.Iterator.Consumers.{count_from_yields_List, YieldsList-from_filter, YieldsList-at}
+use Rattle.text.proofs.Escaping.{has_letter, escaped_count}
 use Rattle.text.proofs.escape.escaped_length.Goals as goal
 
-pub loop-i-preserved-then-letter-eq0 : goal.loop-i-preserved-then-letter-eq0
-loop-i-preserved-then-letter-eq0 c =
-    let next = without_letter c.args.text.now c.loop-i.i _ c.loop-i-test.true c.letter.ensures c.if-letter-eq0.true in
-    omega (arith, ap length next)
-
-pub loop-i-preserved : goal.loop-i-preserved
-loop-i-preserved c =
-    let next = with_letter c.args.text.now c.loop-i.i _ c.loop-i-test.true c.letter.ensures c.if-letter-eq0.false in
-    omega (arith, ap length next)
-
 pub returns : goal.returns
-returns c = omega (arith, ap length (escaped_end c.args.text.now c.loop-i.i c.loop-i-test.false))
+returns c =
+    let t = c.args.text.now in
+    let counted : c.count.result ≡ length (filter has_letter t) = count_from_yields_List c.filter.result _ c.count.ensures.ran
+    (YieldsList-from_filter _ has_letter (YieldsList-at c.filter.ensures.source (YieldsList-from_slice t cc)) c.filter.ensures.closure (λ x r q h. search (rules, tests))) in
+    ap (λ (n : ℕ). length t + n) counted ∙ escaped_count t

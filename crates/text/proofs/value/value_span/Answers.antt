@@ -2,11 +2,11 @@
 use Rattle.text.proofs.Trims.{first_fits, second_fits, third_step}
 use Rattle.text.proofs.value.value_span.Goals as goal
 
-pub without_opening_quote-p-requires : goal.without_opening_quote-p-requires
-without_opening_quote-p-requires c = first_fits _ c.trimmed_span-t.ensures
+pub without_opening_quote-requires : goal.without_opening_quote-requires
+without_opening_quote-requires c = first_fits _ c.trimmed_span.ensures
 
 pub without_closing_quote-requires : goal.without_closing_quote-requires
-without_closing_quote-requires c = second_fits _ c.trimmed_span-t.ensures c.without_opening_quote-p.ensures
+without_closing_quote-requires c = second_fits _ c.trimmed_span.ensures c.without_opening_quote.ensures
 
 pub returns : goal.returns
-returns c = third_step _ c.trimmed_span-t.ensures c.without_opening_quote-p.ensures c.without_closing_quote.ensures
+returns c = third_step _ c.trimmed_span.ensures c.without_opening_quote.ensures c.without_closing_quote.ensures

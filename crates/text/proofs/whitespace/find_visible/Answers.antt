@@ -1,20 +1,15 @@
-use mathlib.Core.Path.{sym, ap, ◌∙◌}
-use mathlib.Core.Bool.{not}
-use Rattle.scan.proofs.Searches.{search_end, search_hit, search_on}
+use Rattle.std.proofs.Common.{◌-◌, refl, length, rules, tests}
+use Rattle.std.proofs.lemmas.Iterator.{YieldsList-from_range}
+use Rattle.std.proofs.lemmas.Iterator.Search.{find_from_yields_List}
+use Rattle.scan.specs.Byte.{byte}
+use Rattle.scan.proofs.Searches.{found_offset}
 use Rattle.text.specs.Whitespace.{visible}
 use Rattle.text.proofs.whitespace.find_visible.Goals as goal
 
-pub loop-i-preserved : goal.loop-i-preserved
-unfolding visible
-loop-i-preserved c =
-    search_on _ _ _ c.loop-i.invariant c.loop-i-test.true
-    (ap not (sym c.is_whitespace.ensures ∙ c.if-is_whitespace.true))
-
-pub returns-else-is_whitespace : goal.returns-else-is_whitespace
-unfolding visible
-returns-else-is_whitespace c =
-    sym (c.loop-i.invariant
-    ∙ search_hit _ _ _ c.loop-i-test.true (ap not (sym c.is_whitespace.ensures ∙ c.if-is_whitespace.false)))
-
 pub returns : goal.returns
-returns c = sym (c.loop-i.invariant ∙ search_end _ _ _ c.loop-i-test.false)
+unfolding visible
+returns c =
+    let s = c.args.s.now in
+    let from = c.args.from in
+    found_offset visible s from c.find.result
+    (find_from_yields_List (λ i. visible (byte s i)) _ _ c.find.result c.find.ensures.ran (YieldsList-from_range from (length s) (length s - from) refl refl) (λ x r q k. search (rules, tests)))

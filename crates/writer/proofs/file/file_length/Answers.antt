@@ -1,32 +1,46 @@
 -- `writer::file::file_length` meets its contract.
-use mathlib.Core.Path.{◌≡◌, ap}
+use mathlib.Core.Path.{sym, ◌∙◌}
 use native.Mathlib.Omega.{arith}
-use Prim.Native.Nat.{◌+◌}
 use lib.ListN.{length}
-use Rattle.text.specs.Text.{quoted_text}
-use Rattle.text.proofs.Escaping.{at_most_twice, quoted_length}
-use Rattle.rendering.specs.Render.{padding}
-use Rattle.rendering.proofs.Padding.{padding_small}
+use Rattle.frame.specs.File.{file_of}
+use Rattle.frame.proofs.PixelLengths.{data_length}
+use Rattle.writer.proofs.CheckLaws.{arguments_fail, arguments_pass, length_passes, over_limit, in_limit, title_long, title_short, part_over, length_refused, length_is}
+use Rattle.writer.proofs.FileLaws.{data_within, title_within, total_length}
 use Rattle.writer.proofs.file.file_length.Goals as goal
 
-pub overflow_add-end : goal.overflow_add-end
-overflow_add-end c =
-    omega (arith, at_most_twice c.args.title.now, c.escaped_length.ensures)
+pub returns-then-not-arguments_allowed : goal.returns-then-not-arguments_allowed
+returns-then-not-arguments_allowed c =
+    length_refused c.failure.ensures (arguments_fail _ _ _ (sym c.arguments_allowed.ensures ∙ c.if-not-arguments_allowed.true))
 
-pub overflow_add-end-2 : goal.overflow_add-end-2
-overflow_add-end-2 c =
-    omega (arith, at_most_twice c.args.title.now, c.escaped_length.ensures)
+pub returns-then-not-parts_fit : goal.returns-then-not-parts_fit
+returns-then-not-parts_fit c =
+    let passes = sym c.arguments_allowed.ensures ∙ c.if-not-arguments_allowed.false in
+    let size = c.data_length-size.ensures ∙ sym (data_length c.args.f c.args.pixels.now (length_passes c.args.f c.args.title.now c.args.pixels.now passes)) in
+    let over = part_over c.data_length-size.result (length c.args.title.now) (length (file_of c.args.f c.args.title.now c.args.pixels.now))
+    (sym c.parts_fit.ensures ∙ c.if-not-parts_fit.true) (omega (arith, size, data_within c.args.f c.args.title.now c.args.pixels.now))
+    (title_within c.args.f c.args.title.now c.args.pixels.now) in
+    length_refused c.failure-then-not-parts_fit.ensures (arguments_pass _ _ _ passes ∙ over_limit _ _ over)
 
-pub overflow_add-result : goal.overflow_add-result
-overflow_add-result c =
-    omega (arith, at_most_twice c.args.title.now, c.escaped_length.ensures, padding_small (c.args.n + c.escaped_length.result + 10), c.filling.ensures)
+pub returns-then-total-gt-FILE_LIMIT : goal.returns-then-total-gt-FILE_LIMIT
+returns-then-total-gt-FILE_LIMIT c =
+    let passes = sym c.arguments_allowed.ensures ∙ c.if-not-arguments_allowed.false in
+    let size = c.data_length-size.ensures ∙ sym (data_length c.args.f c.args.pixels.now (length_passes c.args.f c.args.title.now c.args.pixels.now passes)) in
+    let long = total_length c.args.f c.args.title.now c.args.pixels.now size c.header_length.ensures.value in
+    length_refused c.failure-then-total-gt-FILE_LIMIT.ensures
+    (arguments_pass _ _ _ passes ∙ over_limit _ _ (omega (arith, long, c.if-total-gt-FILE_LIMIT.true)))
 
-pub overflow_add-result-2 : goal.overflow_add-result-2
-overflow_add-result-2 c =
-    omega (arith, at_most_twice c.args.title.now, c.escaped_length.ensures, padding_small (c.args.n + c.escaped_length.result + 10), c.filling.ensures)
+pub returns-then-title-gt-TEXT_LIMIT : goal.returns-then-title-gt-TEXT_LIMIT
+returns-then-title-gt-TEXT_LIMIT c =
+    let passes = sym c.arguments_allowed.ensures ∙ c.if-not-arguments_allowed.false in
+    let size = c.data_length-size.ensures ∙ sym (data_length c.args.f c.args.pixels.now (length_passes c.args.f c.args.title.now c.args.pixels.now passes)) in
+    let long = total_length c.args.f c.args.title.now c.args.pixels.now size c.header_length.ensures.value in
+    length_refused c.failure-then-title-gt-TEXT_LIMIT.ensures
+    (arguments_pass _ _ _ passes ∙ in_limit _ _ (omega (arith, long, c.if-total-gt-FILE_LIMIT.false)) ∙ title_long _ _ c.if-title-gt-TEXT_LIMIT.true)
 
 pub returns : goal.returns
 returns c =
-    let end = c.args.n + c.escaped_length.result + 10 in
-    let same : end ≡ c.args.n + length (quoted_text c.args.title.now) + 8 = omega (arith, quoted_length c.args.title.now, c.escaped_length.ensures) in
-    omega (arith, same, c.filling.ensures, ap padding same)
+    let passes = sym c.arguments_allowed.ensures ∙ c.if-not-arguments_allowed.false in
+    let size = c.data_length-size.ensures ∙ sym (data_length c.args.f c.args.pixels.now (length_passes c.args.f c.args.title.now c.args.pixels.now passes)) in
+    let long = total_length c.args.f c.args.title.now c.args.pixels.now size c.header_length.ensures.value in
+    length_is long (arguments_pass _ _ _ passes ∙ in_limit _ _ (omega (arith, long, c.if-total-gt-FILE_LIMIT.false))
+    ∙ title_short _ _ (omega (arith, c.if-title-gt-TEXT_LIMIT.false)))

@@ -1,40 +1,37 @@
 -- `writer::heading::put_leading` meets its contract.
-use Rattle.append.proofs.Appending.{appended_then, appended_is, appended_length}
-use Rattle.writer.proofs.HeaderLaws.{leading_is}
-use Rattle.frame.proofs.ShapeLaws.{allowed}
+use mathlib.Core.Path.{sym}
 use native.Mathlib.Omega.{arith}
 use mir.Syntax.{w64}
+use mir.Val.{SFits}
 use mir.ValLaws.{to_z-of_z}
-use Rattle.frame.proofs.Allowed.{few_configurations}
+use borrow.Author.Rules.{rules}
+use Rattle.text.proofs.Parts.{each-byte}
+use Rattle.append.proofs.Appending.{within_then, within_is}
+use Rattle.frame.specs.File.{frame_dims}
+use Rattle.frame.proofs.Allowed.{dims_length}
+use Rattle.frame.proofs.ShapeLaws.{allowed}
+use Rattle.writer.proofs.HeaderLaws.{leading_is}
 use Rattle.writer.proofs.heading.put_leading.Goals as goal
 
-pub order_line-c-requires : goal.order_line-c-requires
-order_line-c-requires c =
-    let a = allowed c.args.f c.requires.f_value.0 in
-    record { le_byteorder = (a.byteorder.low, a.byteorder.high); order_line_most_in_bounds = omega (arith, c.requires.leading_most_in_bounds, c.identity_line-a.ensures.upper_bound, appended_length c.identity_line-a.ensures.appended, c.number_line-b.ensures.upper_bound, appended_length c.number_line-b.ensures.appended) }
+pub order_line-requires-clause-le_byteorder : goal.order_line-requires-clause-le_byteorder
+order_line-requires-clause-le_byteorder c = let a = allowed c.args.f c.requires.f_value.0 in (a.byteorder.low, a.byteorder.high)
 
-pub type_line-d-requires : goal.type_line-d-requires
-type_line-d-requires c =
-    let a = allowed c.args.f c.requires.f_value.0 in
-    record { le_datatype = (a.datatype.low, a.datatype.high); type_line_most_in_bounds = omega (arith, c.requires.leading_most_in_bounds, c.identity_line-a.ensures.upper_bound, appended_length c.identity_line-a.ensures.appended, c.number_line-b.ensures.upper_bound, appended_length c.number_line-b.ensures.appended, c.order_line-c.ensures.upper_bound, appended_length c.order_line-c.ensures.appended) }
+pub type_line-requires-clause-le_datatype : goal.type_line-requires-clause-le_datatype
+type_line-requires-clause-le_datatype c = let a = allowed c.args.f c.requires.f_value.0 in (a.datatype.low, a.datatype.high)
 
-pub dim_lines-e-requires : goal.dim_lines-e-requires
-dim_lines-e-requires c =
-    let a = allowed c.args.f c.requires.f_value.0 in
-    record { le_n = (a.n.low, a.n.high); dim1_bound = (omega (arith, c.requires.f_value.1.small.few1), omega (arith, c.requires.f_value.1.small.few2), omega (arith, c.requires.f_value.1.small.few3)); dim_lines_most_in_bounds = omega (arith, c.requires.leading_most_in_bounds, c.identity_line-a.ensures.upper_bound, appended_length c.identity_line-a.ensures.appended, c.number_line-b.ensures.upper_bound, appended_length c.number_line-b.ensures.appended, c.order_line-c.ensures.upper_bound, appended_length c.order_line-c.ensures.appended, c.type_line-d.ensures.upper_bound, appended_length c.type_line-d.ensures.appended) }
+pub slice_bounds-dim_lines-end : goal.slice_bounds-dim_lines-end
+slice_bounds-dim_lines-end c = (allowed c.args.f c.requires.f_value.0).n.high
 
-pub number_line-requires : goal.number_line-requires
-number_line-requires c =
-    let a = allowed c.args.f c.requires.f_value.0 in (
-      omega (arith, a.configuration.high, few_configurations c.args.f.n a.n),
-      omega (arith, c.requires.leading_most_in_bounds, c.identity_line-a.ensures.upper_bound, appended_length c.identity_line-a.ensures.appended, c.number_line-b.ensures.upper_bound, appended_length c.number_line-b.ensures.appended, c.order_line-c.ensures.upper_bound, appended_length c.order_line-c.ensures.appended, c.type_line-d.ensures.upper_bound, appended_length c.type_line-d.ensures.appended, c.dim_lines-e.ensures.upper_bound, appended_length c.dim_lines-e.ensures.appended),
-    )
+pub slice_bounds-dim_lines-end-2 : goal.slice_bounds-dim_lines-end-2
+slice_bounds-dim_lines-end-2 c = sym (dims_length (allowed c.args.f c.requires.f_value.0))
+
+pub dim_lines-requires-clause-small : goal.dim_lines-requires-clause-small
+dim_lines-requires-clause-small c =
+    λ i h. let d = each-byte (frame_dims c.args.f) (allowed c.args.f c.requires.f_value.0).dims i h in omega (arith, d.high)
 
 pub returns : goal.returns
 returns c =
-    let same = to_z-of_z w64 c.args.f.sequence (record { sfits = c.struct_told-1.given.0.1 }) in
-    let kept = to_z-of_z w64 c.args.f.memory (record { sfits = c.struct_told-1.given.1.1.0.1 }) in record {
-      appended = appended_is (leading_is c.args.f c.args.s c.args.size c.requires.f_value.1 same kept)
-          (appended_then (appended_then (appended_then (appended_then (appended_then c.identity_line-a.ensures.appended c.number_line-b.ensures.appended) c.order_line-c.ensures.appended) c.type_line-d.ensures.appended) c.dim_lines-e.ensures.appended) c.number_line.ensures.appended);
-      upper_bound = omega (arith, c.identity_line-a.ensures.upper_bound, c.number_line-b.ensures.upper_bound, c.order_line-c.ensures.upper_bound, c.type_line-d.ensures.upper_bound, c.dim_lines-e.ensures.upper_bound, c.number_line.ensures.upper_bound);
-    }
+    let sequence-fits : SFits w64 c.args.f.sequence = search rules in
+    let memory-fits : SFits w64 c.args.f.memory = search rules in
+    within_is (leading_is c.args.f c.args.size (to_z-of_z w64 _ sequence-fits) (to_z-of_z w64 _ memory-fits))
+    (within_then (within_then (within_then (within_then (within_then c.identity_line.ensures c.number_line.ensures) c.order_line.ensures) c.type_line.ensures) c.dim_lines.ensures) c.number_line-2.ensures)

@@ -1,7 +1,0 @@
--- `edf_c::arrays::edf_read_array` meets its contract.
-use Rattle.edf_c.proofs.Answering.{writes}
-use Rattle.edf_c.proofs.arrays.edf_read_array.Goals as goal
-
-pub returns : goal.returns
-returns c =
-    let both = writes _ _ _ _ _ c.read_array-answer.result (c.read_array-answer.ensures.result_value, c.read_array-answer.ensures.out_after) (c.put_written.ensures.value, (c.put_written.ensures.written_after, c.put_written.ensures.position_after)) in record { value = both.0; written_after = both.1.0; position_after = both.1.1.0; out_after = both.1.1.1 }

@@ -1,0 +1,8 @@
+-- `shift::lane::U16Lane2::shifted` meets its contract.
+use Rattle.std.proofs.Common.{rules}
+use Rattle.shift.specs.Shifting.{shift_by}
+use Rattle.shift.proofs.lane.U16Lane2.shifted.Goals as goal
+
+pub returns : goal.returns
+unfolding shift_by
+returns c = search rules
