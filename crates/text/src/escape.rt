@@ -1,6 +1,5 @@
 // Text into value form, and text out of a value. The length is measured first, so that the buffer is untouched in every error.
 ghost use Rattle.std.specs.Prelude.{◌||◌, ◌≡◌, ◌≤◌, eqb, length};
-ghost use Rattle.std.specs.Iterator.{YieldsFirst, item_count};
 ghost use Rattle.scan.specs.Buffer.{over, length_written, buffer_after};
 ghost use Rattle.text.specs.Escapes as spec;
 ghost use Rattle.text.specs.Text.{every, text_byte, value_byte, escaped_body, quoted_text, escaped, text_of, short_text, unescaped};
@@ -41,11 +40,18 @@ fn letter(b: u8) -> Option<u8>
     }
 }
 
-// How many bytes the escaped characters of text take: one each, and one more for each that has a letter.
+// How many bytes the escaped characters of text take: one each, or two where there is a letter.
 pub fn escaped_length(text: &[u8]) -> usize
     ensures { result ≡ length (escaped_body text.now) }
 {
-    text.len() + text.iter().filter(|b| letter(**b).is_some()).count()
+    let mut n = 0;
+    for &b in text {
+        match letter(b) {
+            Some(_) => n += 2,
+            None => n += 1,
+        }
+    }
+    n
 }
 
 // Writes the escaped characters between quotes. `o` is a place in `out`, which moves by one or by two.
@@ -94,18 +100,50 @@ pub fn escape(text: &[u8], out: &mut [u8]) -> Result<usize, Error>
 
 // ---- From a value
 
-// Whether a byte may stand between `=` and `;`: 1 to 127, no brace and no `;`.
+// The bytes at the front of a value, which are tested one at a time.
+const FRONT: usize = 16;
+
+// The bytes behind them that are tested together.
+const PIECE: usize = 64;
+
+// Whether a byte may stand between `=` and `;`: 1 to 127, no brace and no `;`. There is no branch, so that the compiler tests many
+// bytes at once.
 #[tactic(auto, unfolding(crate::specs::Text::value_byte, crate::specs::Text::text_byte))]
 fn is_value_byte(b: u8) -> bool
     ensures { result ≡ value_byte b }
 {
-    is_text_byte(b) && !matches!(b, b'{' | b'}' | b';')
+    is_text_byte(b) & (b != b'{') & (b != b'}') & (b != b';')
 }
 
+// Whether all bytes of a piece may stand there. All are looked at, whatever the first are.
+fn is_value_piece(piece: &[u8]) -> bool
+    ensures { result ≡ every value_byte piece.now }
+{
+    let mut all = true;
+    for &b in piece {
+        all &= is_value_byte(b);
+    }
+    all
+}
+
+// The same of any number of bytes, a piece at a time.
+fn are_value_pieces(l: &[u8]) -> bool
+    ensures { result ≡ every value_byte l.now }
+{
+    for piece in l.chunks(PIECE) {
+        if !is_value_piece(piece) {
+            return false;
+        }
+    }
+    true
+}
+
+// The same, the front one at a time: most values are short, and a bad byte there is found at once.
 fn all_value_bytes(l: &[u8]) -> bool
     ensures { result ≡ every value_byte l.now }
 {
-    l.iter().all(|b| is_value_byte(*b))
+    let (front, rest) = l.split_at(l.len().min(FRONT));
+    front.iter().all(|b| is_value_byte(*b)) && are_value_pieces(rest)
 }
 
 fn is_line_break(b: u8) -> bool
@@ -133,50 +171,39 @@ fn meaning(b: u8) -> u8
     }
 }
 
-// The bytes of the text of what is left of a value.
-#[derive(Drop)]
-struct Characters<'a>(&'a [u8]);
-
-impl Iterator for Characters<'_> {
-    type Item = u8;
-
-    ghost next_gives = { YieldsFirst (λ s. text_of s.0.now) };
-
-    ghost remaining = { item_count (λ s. text_of s.0.now) };
-
-    #[tactic(auto, unfolding(crate::specs::Text::text_of, crate::specs::Text::unescaped_after, crate::specs::Text::without_line_breaks))]
-    fn next(&mut self) -> Option<u8> {
-        let mut pending = false;
-        while let Some((&b, rest)) = self.0.split_first() {
-            self.0 = rest;
-            if is_line_break(b) {
-                continue;
-            }
-            if pending {
-                return Some(meaning(b));
-            }
-            if b != b'\\' {
-                return Some(b);
-            }
-            pending = true;
-        }
-        None
-    }
-}
-
-// How many bytes the text of a value takes.
+// How many bytes the text of a value takes. `pending` says that a backslash stands before.
 fn text_length(value: &[u8]) -> usize
     ensures { result ≡ length (text_of value.now) }
 {
-    Characters(value).count()
+    let mut n = 0;
+    let mut pending = false;
+    for &b in value {
+        if !is_line_break(b) {
+            let opens = !pending & (b == b'\\');
+            if !opens {
+                n += 1;
+            }
+            pending = opens;
+        }
+    }
+    n
 }
 
 fn write_unescaped(value: &[u8], out: &mut [u8])
     requires { length (text_of value.now) ≤ length out.old }
     ensures { out.new ≡ over (text_of value.now) out.old }
 {
-    for (i, b) in Characters(value).enumerate() {
-        out[i] = b;
+    let mut o = 0;
+    let mut pending = false;
+    for &b in value {
+        if !is_line_break(b) {
+            let opens = !pending & (b == b'\\');
+            if !opens {
+                out[o] = if pending { meaning(b) } else { b };
+                o += 1;
+            }
+            pending = opens;
+        }
     }
 }
 

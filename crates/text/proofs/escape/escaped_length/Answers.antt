@@ -1,13 +1,18 @@
-use Rattle.std.proofs.Common.{◌≡◌, ◌+◌, ◌∙◌, ap, length, rules, tests, ℕ}
-use Rattle.std.specs.List.{filter}
-use Rattle.std.proofs.lemmas.Iterator.{YieldsList-from_slice}
-use Rattle.std.proofs.lemmas.Iterator.Consumers.{count_from_yields_List, YieldsList-from_filter, YieldsList-at}
-use Rattle.text.proofs.Escaping.{has_letter, escaped_count}
+use Rattle.std.proofs.Common.{◌∙◌, sym, ap, length, Some, None, arith}
+use Rattle.text.proofs.Escaping.{escaped_at, escaped_end}
 use Rattle.text.proofs.escape.escaped_length.Goals as goal
+use Rattle.text.proofs.escape.escaped_length.Goals.{in-Some, in-None}
+
+pub loop-b-preserved : goal.loop-b-preserved
+loop-b-preserved c =
+    elim c.match-letter.branch [
+      | in-Some w ↦
+          let e = escaped_at _ _ c.loop-b-test.true (Some w.in-Some.field-0) (sym c.letter.ensures ∙ w.in-Some.is) in
+          (omega (arith, w.n-is), omega (arith, ap length e, w.n-is))
+      | in-None w ↦
+          let e = escaped_at _ _ c.loop-b-test.true None (sym c.letter.ensures ∙ w.in-None.is) in
+          (omega (arith, w.n-is), omega (arith, ap length e, w.n-is))
+    ]
 
 pub returns : goal.returns
-returns c =
-    let t = c.args.text.now in
-    let counted : c.count.result ≡ length (filter has_letter t) = count_from_yields_List c.filter.result _ c.count.ensures.ran
-    (YieldsList-from_filter _ has_letter (YieldsList-at c.filter.ensures.source (YieldsList-from_slice t cc)) c.filter.ensures.closure (λ x r q h. search (rules, tests))) in
-    ap (λ (n : ℕ). length t + n) counted ∙ escaped_count t
+returns c = omega (arith, ap length (escaped_end c.args.text.now c.loop-b.b-index c.loop-b-test.false))
