@@ -8,7 +8,7 @@ ghost use Rattle.text.specs.Key.{key_of};
 use super::whitespace::find_visible;
 
 // A byte, folded to a small letter: the entry of the list of 128, which is what std's fold of ASCII gives.
-#[tactic(auto, using(crate::proofs::Folds::fold_lower))]
+#[tactic(auto, unfolding(crate::specs::Fold::fold, crate::specs::Fold::fold_table), using(crate::proofs::Folds::fold_lower))]
 pub fn fold_byte(b: u8) -> u8
     ensures { result ≡ fold b }
 {
