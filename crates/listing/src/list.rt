@@ -49,6 +49,16 @@ fn append_listing(file: &[u8], out: &mut Appender<'_>)
     }
 }
 
+// The same into a buffer, for which LISTING_ROOM bytes are room enough: how many bytes.
+pub fn put_listing(file: &[u8], out: &mut [u8]) -> usize
+    requires { listing_room ≤ length out.old }
+    ensures { Appended (listing file.now) 0 out.old out.new result }
+{
+    let mut lines = Appender::new(out);
+    append_listing(file, &mut lines);
+    lines.at
+}
+
 // The listing of a file at the front of the lent buffer: how many bytes, at most LISTING_ROOM. Error 22 where it has no room, and then it
 // is untouched.
 pub fn list(file: &[u8], out: &mut [u8]) -> Result<usize, Error>
@@ -56,9 +66,7 @@ pub fn list(file: &[u8], out: &mut [u8]) -> Result<usize, Error>
     ensures out_after { out.new ≡ buffer_after (Ok (listing file.now)) out.old }
 {
     let mut text = [0u8; LISTING_ROOM];
-    let mut lines = Appender::new(&mut text);
-    append_listing(file, &mut lines);
-    let n = lines.at;
+    let n = put_listing(file, &mut text);
     buffer::write_bytes(&text[..n], out)
 }
 

@@ -5,7 +5,7 @@ ghost use Rattle.text.specs.Decimal as text;
 ghost use Rattle.blocks.specs.IdentityText.{identity_text};
 ghost use Rattle.raster.specs.Types.{type_of, order_words};
 ghost use Rattle.append.specs.Append.{HasRoom, AppendedWithin};
-ghost use Rattle.rendering.specs.Most.{number_line_most, identity_line_most, order_line_most, type_line_most, dim_lines_most};
+ghost use Rattle.rendering.specs.Most.{line_length, number_line_most, identity_line_most, order_line_most, type_line_most, dim_lines_most};
 ghost use Rattle.rendering.specs.Render.{keyword, dim_keywords, line, lines};
 
 use append::appender::Appender;
@@ -24,6 +24,16 @@ fn end_line(out: &mut Appender<'_>)
     ensures { AppendedWithin 4 (ascii " ;\r\n") out.old out.new }
 {
     out.append(b" ;\r\n");
+}
+
+pub fn put_line(key: &[u8], value: &[u8], out: &mut Appender<'_>)
+    requires { HasRoom (line_length (length key.now) (length value.now)) out.old }
+    ensures appended { AppendedWithin (line_length (length key.now) (length value.now)) (line (keyword key.now value.now)) out.old out.new }
+    ensures value { out.new.at ≡ out.old.at + line_length (length key.now) (length value.now) }
+{
+    begin_line(key, out);
+    out.append(value);
+    end_line(out);
 }
 
 // The line of a number.

@@ -2,7 +2,7 @@
 use Rattle.std.specs.Prelude.{Option, None, Some}
 use mathlib.Core.Path.{◌≡◌, ap, ◌∙◌}
 use mathlib.Core.List.{List, [], ◌∷◌, ◌++◌}
-use Prim.Native.Nat.{ℕ, suc, ◌+◌, ◌≤◌}
+use Prim.Native.Nat.{ℕ, suc, ◌≤◌}
 use native.Mathlib.Omega.{arith}
 use lib.ListN.{length, length-append}
 use Rattle.text.specs.Text.{escape_with, escaped_body, quoted_text}
@@ -31,12 +31,10 @@ module _ (f : Frame) (title pixels : List ℕ) where
   unfolding file_of
   file_is = ap (λ (l : List ℕ). l ++ file_data f pixels) (header_is f title pixels)
 
-  module _ {size : ℕ} (q : size ≡ length (file_data f pixels)) where
-    pub file_made : closed (titled (front f size) title) ++ file_data f pixels ≡ file_of f title pixels
-    file_made = ap (λ (k : ℕ). closed (titled (front f k) title) ++ file_data f pixels) q ∙ file_is
-
-    pub total_length : {n : ℕ} → n ≡ length (closed (titled (front f size) title)) → n + size ≡ length (file_of f title pixels)
-    total_length e = omega (arith, e, q, ap length file_made, length-append (closed (titled (front f size) title)) (file_data f pixels))
+  -- The same of the bytes of a front.
+  pub file_made : {size : ℕ} {first : List ℕ} → size ≡ length (file_data f pixels) → first ≡ front f size
+      → closed (titled first title) ++ file_data f pixels ≡ file_of f title pixels
+  file_made q e = ap (λ (l : List ℕ). closed (titled l title) ++ file_data f pixels) (e ∙ ap (front f) q) ∙ file_is
 
   pub data_within : length (file_data f pixels) ≤ length (file_of f title pixels)
   unfolding file_of

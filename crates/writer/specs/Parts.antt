@@ -1,8 +1,9 @@
 -- The checks of the writer, and how long its file is.
-use Rattle.std.specs.Prelude.{Bool, ◌&&◌, List, ℕ, ◌*◌, eqb, leb, length, Ok, Err}
+use Rattle.std.specs.Prelude.{Bool, ◌&&◌, List, ℕ, ◌+◌, ◌*◌, eqb, leb, length, Ok, Err}
 use Rattle.scan.specs.Outcome.{Outcome, require, ◌>>◌}
 use Rattle.text.specs.Text.{every, text_byte, short_text}
 use Rattle.raster.specs.Position.{product}
+use Rattle.rendering.specs.Render.{padding}
 use Rattle.frame.specs.File.{frame_dims, frame_type, frame_allowed}
 use Rattle.blocks.specs.Limits.{file_limit}
 use Rattle.frame.specs.declared.Frame.{Frame}
@@ -16,6 +17,12 @@ frame_fits f pixels = frame_allowed f && eqb (length pixels) (product (frame_dim
 -- The title's bytes too.
 abbrev pub arguments_allowed : Frame → List ℕ → List ℕ → Bool
 arguments_allowed f title pixels = frame_fits f pixels && every text_byte title
+
+-- How long the data is, with its filling: it and the title in the limit of a file.
+unfoldable pub size_of : Frame → List ℕ → List ℕ → Outcome ℕ
+size_of f title pixels =
+    let size = length pixels + padding (length pixels) in
+    require (arguments_allowed f title pixels) 24 0 >> (require (leb size file_limit && leb (length title) file_limit) 24 0 >> Ok size)
 
 -- A file whose title is short,
 unfoldable pub short_titled : List ℕ → List ℕ → Outcome (List ℕ)

@@ -59,14 +59,14 @@ fn put_quoted(title: &[u8], out: &mut Appender<'_>)
     out.at += escaped_length(title) + 2;
 }
 
-// The whole header, at the front of a file, for data of a size.
-pub fn put_header(f: Frame, size: usize, title: &[u8], out: &mut Appender<'_>)
-    requires f_value { (frame_allowed f ≡ true) × (size ≤ file_limit) × (length title.now ≤ text_limit) }
+// The whole header, of its front and the title, at the front of a file.
+pub fn put_header(first: &[u8], title: &[u8], out: &mut Appender<'_>)
+    requires short { length title.now ≤ text_limit }
     requires at_front { out.old.at ≡ 0 }
-    requires room { HasRoom (length (closed (titled (front f size) title.now))) out.old }
-    ensures { AppendedWithin (length (closed (titled (front f size) title.now))) (closed (titled (front f size) title.now)) out.old out.new }
+    requires room { HasRoom (length (closed (titled first.now title.now))) out.old }
+    ensures { AppendedWithin (length (closed (titled first.now title.now))) (closed (titled first.now title.now)) out.old out.new }
 {
-    put_front(f, size, out);
+    out.append(first);
     put_quoted(title, out);
     out.append(b" ;\r\n");
     out.append_repeated(b' ', filling(out.at + 4));
