@@ -1,8 +1,10 @@
 // One pixel of a block's array, from its data.
 ghost use Rattle.std.specs.Prelude.{◌≡◌, true, ◌+◌, ◌*◌, ◌^◌, ◌<◌, ◌≤◌, length, take, drop};
+ghost use Rattle.raster.specs.Axis.{order_of};
 ghost use Rattle.raster.specs.Element.{half, signed_of, element_bits};
 ghost use Rattle.raster.specs.Pixels.{pixel_of};
-ghost use Rattle.raster.specs.Strided.{Width};
+ghost use Rattle.raster.specs.Strided.{Width, place_of};
+ghost use Rattle.raster.specs.Strides.{steps_of};
 ghost use Rattle.raster.specs.Types.{type_of};
 ghost use Rattle.description.specs.Shape.{array_type};
 ghost use Rattle.description.specs.Valid.{ValidArray};
@@ -15,7 +17,6 @@ use raster::stride::{Steps, steps_of};
 use raster::types::{Class, width_of};
 use std::num::{f32_from_bits_with_nan, f64_from_bits_with_nan};
 use strides::places::spot;
-use text::signed::{down, up};
 
 // Half of the numbers of w bytes.
 fn half_of(w: usize) -> u64
@@ -55,6 +56,7 @@ fn pixel_by(datatype: u8, n: u64) -> Pixel
 fn place_of(src: &[u8], d: Description, i1: usize, i2: usize, i3: usize) -> usize
     requires valid_array { ValidArray d (length src.now) }
     requires index { is_index d i1 i2 i3 ≡ true }
+    ensures value { result ≡ place_of (steps_of (array_type d).width (order_of 3 d.configuration) d.dim1 d.dim2 d.dim3) i1 i2 i3 }
     ensures element { take (array_type d).width (drop result src.now) ≡ stored_element d src.now i1 i2 i3 }
     ensures inside { result + (array_type d).width ≤ length src.now }
 {

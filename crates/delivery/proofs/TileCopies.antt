@@ -36,7 +36,7 @@ pub size_fits : (a b : ℕ) → a ≤ 256 → b ≤ 64 → a * b ≤ 16384
 size_fits a b h l = let m = mul-le-mul_left a l in omega arith
 
 -- A row of the tile is inside the copy.
-copy_inside : (w h k i : ℕ) → i < h → Inside (w * i) (w * h) 0 k w (w * h * k)
+pub copy_inside : (w h k i : ℕ) → i < h → Inside (w * i) (w * h) 0 k w (w * h * k)
 copy_inside w h k i b j l = (omega (arith, zero-mul j), omega (arith, mul_room w i h b, mul_room (w * h) j k l))
 
 -- Row i of a tile of n rows, in its copy.

@@ -13,6 +13,7 @@ use Rattle.scan.proofs.Finds.{by_finds}
 use Rattle.header.specs.Frame.{header_at}
 use Rattle.std.specs.Result.{is_ok}
 use Rattle.scan.proofs.Cases.{clash}
+use Rattle.header.specs.Entry.{Entry}
 use Rattle.header.specs.Walks.{Steps}
 use Rattle.header.specs.declared.Malformed.{Malformed}
 use Rattle.header.proofs.WalkSteps.{Given, given, broken}
@@ -66,11 +67,11 @@ module _ {l s s' : List ℕ} {at next : ℕ} (same_bytes : l ≡ s) where
 
 -- ---- The first key
 
-module _ (s : List ℕ) (from : ℕ) where
-  pub no_first_key : entries_from s from ≡ [] → false ≡ is_edf_key (first (entries_from s from)).key
-  unfolding is_edf_key same
-  no_first_key e = rw e
+pub no_first_key : {es : List Entry} → es ≡ [] → false ≡ is_edf_key (first es).key
+unfolding is_edf_key same
+no_first_key e = rw e
 
+module _ (s : List ℕ) (from : ℕ) where
   pub first_key : {k v : List ℕ} {next : ℕ} → IsFirstEntry s from k v next → is_edf_key (key_of k) ≡ is_edf_key (first (entries_from s from)).key
   first_key f = rw (f.entries, f.key)
 

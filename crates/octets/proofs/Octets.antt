@@ -19,7 +19,7 @@ reads_from s p k (suc w) h =
     rw (drop-cons s (p + k) 0 j)
     (ap (λ (l : List ℕ). get_or s (p + k) 0 ∷ l) (reads_from s p (suc k) w (omega arith) ∙ ap (λ (m : ℕ). take w (drop m s)) (sym e)))
 
-reads_are : (w : ℕ) (s : List ℕ) (p : ℕ) → p + w ≤ length s → reads s p 0 w ≡ take w (drop p s)
+pub reads_are : (w : ℕ) (s : List ℕ) (p : ℕ) → p + w ≤ length s → reads s p 0 w ≡ take w (drop p s)
 reads_are w s p h = let e : p + 0 ≡ p = omega arith in reads_from s p 0 w (omega arith) ∙ ap (λ (m : ℕ). take w (drop m s)) e
 
 -- The elements of an array of w.

@@ -63,13 +63,13 @@ abbrev pub further_digits : Option ℕ → List ℕ → Option ℕ
 further_digits None s = None
 further_digits (Some v) s = digits_from v s
 
-joined : (a : ℕ) (s t : List ℕ) → digits_from a (s ++ t) ≡ further_digits (digits_from a s) t
+pub joined : (a : ℕ) (s t : List ℕ) → digits_from a (s ++ t) ≡ further_digits (digits_from a s) t
 unfolding digits_from
 joined a [] t = refl
 joined a (x ∷ s) t = let later = joined (a * 10 + (x - 48)) s t in by_test (digit x) (λ e. rw e later) (λ e. rw e)
 
 -- One digit at least.
-some_digit : (s t : List ℕ) → 0 < length s + length t → digits_from 0 (s ++ t) ≡ natural (s ++ t)
+pub some_digit : (s t : List ℕ) → 0 < length s + length t → digits_from 0 (s ++ t) ≡ natural (s ++ t)
 unfolding natural
 some_digit [] [] h = absurd (omega arith)
 some_digit [] (x ∷ t) h = refl

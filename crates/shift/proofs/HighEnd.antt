@@ -1,14 +1,14 @@
 -- At the high end of 64 bits a shift gives the same bytes.
-use Rattle.std.proofs.Common.{◌≡◌, ℕ, zero, suc, ◌+◌, ◌-◌, ◌*◌, ◌/◌, ◌%◌, ◌^◌, ◌<◌, ◌≤◌, min, Bool, true, false, cond, eqb, ltb, List, [], ◌∷◌, ◌++◌, reverse, length, replicate, sym, refl, ap, ◌∙◌, mod-lt, mul_assoc, suc-add, zero-add, mul-one, div-one, le-div_iff_mul-le, div-mul-le_self, mul-div_cancel, arith, ltb-false, ltb-true}
+use Rattle.std.proofs.Common.{◌≡◌, ℕ, zero, suc, ◌+◌, ◌-◌, ◌*◌, ◌/◌, ◌%◌, ◌^◌, ◌<◌, ◌≤◌, min, Bool, true, false, cond, eqb, ltb, List, [], ◌∷◌, ◌++◌, reverse, length, get_or, replicate, sym, refl, ap, ◌∙◌, subst, mod-lt, mul_assoc, mul-lt-mul_of_pos_right, suc-add, zero-add, mul-one, div-one, le-div_iff_mul-le, div-mul-le_self, mul-div_cancel, arith, ltb-false, ltb-true}
 use mathlib.Core.List.{reverse-append, reverse-reverse}
 use native.Mathlib.Nat.{div-div-eq-div-mul, pow-succ', add-mul-div_right, one-le-pow}
 use lib.Arith.{digits_div, mod-mul}
 use lib.Bits.{bit_xor, xor_shr}
 use lib.ListN.{length-reverse}
-use Rattle.raster.specs.Bytes.{high_first, low_first, number_of, low_bytes}
+use Rattle.raster.specs.Bytes.{high_first, low_first, number_of, low_bytes, bytes_of}
 use Rattle.raster.specs.Strided.{Octets, turned}
 use Rattle.raster.proofs.Elements.{orders_agree}
-use Rattle.raster.proofs.RoundTrip.{octets_turned, low_length, bytes_turned}
+use Rattle.raster.proofs.RoundTrip.{octets_turned, low_bound, low_length, bytes_turned}
 use Rattle.shift.specs.HighEnd.{shift_high, swapped, aligned_from, restored_to}
 use Rattle.shift.specs.Shifting.{shift_by, weight, shifted_bytes}
 use Rattle.shift.specs.declared.shift.Shift.{Shift}
@@ -104,6 +104,11 @@ low_split (suc k) w n =
     ∙ ap (λ (m : ℕ). (n % 256) ∷ (low_bytes k (n / 256) ++ low_bytes w m))
     (div-div-eq-div-mul n 256 (256 ^ k) ∙ ap (λ (p : ℕ). n / p) (sym (pow-succ' 256 k)))
 
+-- The elements of an array of bytes.
+pub octets_of : (l : List ℕ) → ((i : ℕ) → get_or l i 0 < 256) → Octets l
+octets_of [] h = tt
+octets_of (b ∷ l) h = (h 0, octets_of l (λ i. h (suc i)))
+
 octets_low : (w n : ℕ) → Octets (low_bytes w n)
 unfolding low_bytes
 octets_low zero n = tt
@@ -169,3 +174,30 @@ shifted_is w s order asked l some k h e =
     ∙ restored_by (eqb asked 1) w (shift (n * weight w)) k
     ∙ ap (λ (x : ℕ). turned (eqb asked 1) (low_bytes w x)) (high_end w some k s n)
     ∙ sym (bytes_turned asked w (shift_by w s n))
+
+-- ---- Eight bytes, whose weight is 1
+
+pub aligned_8 : (order : ℕ) (l : List ℕ) → ((i : ℕ) → get_or l i 0 < 256) → length l ≡ 8
+    → number_of order l ≡ aligned_from order 1 (low_first l)
+unfolding aligned_from number_of
+aligned_8 order l h e =
+    sym (mul-one (cond (eqb order 1) (high_first 0 l) (low_first l)))
+    ∙ sym (aligned_by (eqb order 1) 8 l (octets_of l h) e (omega arith))
+
+pub shifted_8 : (s : Shift) (n : ℕ) → shift_high 1 s n ≡ shift_by 8 s n
+shifted_8 s n =
+    sym (div-one (shift_high 1 s n)) ∙ ap (λ (x : ℕ). shift_high 1 s x / 1) (sym (mul-one n)) ∙ high_end 8 (omega arith) (omega arith) s n
+
+pub restored_8 : (asked n : ℕ) → bytes_of asked 8 n ≡ low_bytes 8 (restored_to asked 1 n)
+unfolding restored_to
+restored_8 asked n =
+    bytes_turned asked 8 n
+    ∙ ap (λ (x : ℕ). turned (eqb asked 1) (low_bytes 8 x)) (sym (div-one n))
+    ∙ sym (restored_by (eqb asked 1) 8 n (omega arith))
+
+-- ---- An element at the high end fits
+
+pub element_fits : (w : ℕ) (l : List ℕ) (x : ℕ) → 0 < w → w ≤ 8 → length l ≡ w → (x ≡ low_first l) × Octets l → x * weight w < 2 ^ 64
+element_fits w l x some few e (q, h) =
+    let b : x < 256 ^ w = subst (λ (n : ℕ). x < 256 ^ n) e (rw q (low_bound l h)) in
+    subst (λ (t : ℕ). x * weight w < t) (whole false w some few) (mul-lt-mul_of_pos_right b (one-le-pow (8 - w) 256 (omega arith)))

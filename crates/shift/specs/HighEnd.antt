@@ -1,6 +1,8 @@
 -- Another way to shift an element of at most eight bytes: at the high end of 64 bits, for all widths alike.
-use Rattle.std.specs.Prelude.{ℕ, ◌+◌, ◌*◌, ◌/◌, ◌%◌, ◌^◌, min, cond, reverse, ◌==◌, bit_xor}
+use Rattle.std.specs.Prelude.{List, ℕ, ◌+◌, ◌*◌, ◌/◌, ◌%◌, ◌^◌, min, cond, reverse, ◌==◌, bit_xor}
 use Rattle.raster.specs.Bytes.{low_first, low_bytes}
+use Rattle.shift.specs.Shifting.{weight}
+use Rattle.shift.specs.declared.shift.Addition.{Addition}
 use Rattle.shift.specs.declared.shift.Shift.{Shift}
 
 -- What `shift_by` does, done to 64 bits with an element of the weight k at their high end.
@@ -18,3 +20,8 @@ aligned_from order k x = cond (order == 1) (swapped x) (x * k)
 
 unfoldable pub restored_to : ℕ → ℕ → ℕ → ℕ
 restored_to asked k r = cond (asked == 1) (swapped r) (r / k)
+
+-- `added`, made of these steps.
+abbrev pub added_high : ℕ → Addition → List ℕ → List ℕ
+added_high w a l =
+    low_bytes w (restored_to a.asked (weight w) (shift_high (weight w) a.shift (aligned_from a.order (weight w) (low_first l))))

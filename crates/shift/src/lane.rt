@@ -1,6 +1,7 @@
 // The numbers that an offset is added to: of as many bits as the element has, so that the compiler takes several at once.
 ghost use Rattle.std.specs.Prelude.{◌≡◌, ℕ};
-ghost use Rattle.raster.specs.Bytes.{number_of, bytes_of};
+ghost use Rattle.raster.specs.Bytes.{number_of, bytes_of, low_first, low_bytes};
+ghost use Rattle.shift.specs.HighEnd.{shift_high, aligned_from, restored_to};
 ghost use Rattle.shift.specs.Shifting.{shift_by};
 
 use crate::shift::Shift;
@@ -95,11 +96,13 @@ impl Lane<4> for u32 {
     }
 }
 
+// Such an element fills the 64 bits, so these are the steps at their high end too.
 impl Lane<8> for u64 {
     ghost number = { λ n. n };
 
     fn read(b: [u8; 8], order: u8) -> u64
-        ensures { result ≡ number_of order b }
+        ensures value { result ≡ number_of order b }
+        ensures aligned { result ≡ aligned_from order 1 (low_first b) }
     {
         if order == 1 {
             u64::from_be_bytes(b)
@@ -108,11 +111,17 @@ impl Lane<8> for u64 {
         }
     }
 
-    fn shifted(self, s: Shift) -> u64 {
+    fn shifted(self, s: Shift) -> u64
+        ensures value { result ≡ shift_by 8 s self }
+        ensures high { result ≡ shift_high 1 s self }
+    {
         s.high.min(self ^ s.inverted).wrapping_add(s.delta) ^ s.inverted
     }
 
-    fn written(self, asked: u8) -> [u8; 8] {
+    fn written(self, asked: u8) -> [u8; 8]
+        ensures value { result ≡ bytes_of asked 8 self }
+        ensures restored { result ≡ low_bytes 8 (restored_to asked 1 self) }
+    {
         if asked == 1 {
             self.to_be_bytes()
         } else {

@@ -33,7 +33,7 @@ use Rattle.stored.specs.Stored.{as_delivered}
 
 -- ---- The test
 
-zero_offset : (z : ℤ) → is_zero z ≡ true → z ≡ pos 0
+pub zero_offset : (z : ℤ) → is_zero z ≡ true → z ≡ pos 0
 zero_offset (pos n) e = ap pos (eqb-true n 0 e)
 zero_offset (negsuc n) e = absurd (false≢true e)
 

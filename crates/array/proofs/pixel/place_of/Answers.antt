@@ -48,6 +48,7 @@ returns c =
     ∙ ap (λ (x : Steps). place_of x c.args.i1 c.args.i2 c.args.i3)
     (steps_are c.args.d _ c.requires.valid_array c.width_of-width.result c.width_of-width.ensures t c.steps_of-steps.ensures) in
     record {
+      value = at;
       element = ap (λ (x : ℕ). take (array_type c.args.d).width (drop x c.args.src.now)) at
           ∙ sym (stored_place c.args.d _ c.requires.valid_array c.args.src.now c.args.i1 c.args.i2 c.args.i3 h.0 h.1 h.2);
       inside = omega (arith, c.spot.ensures.1, c.width_of-width.ensures);

@@ -7,4 +7,4 @@ pub returns-in-Some : goal.returns-in-Some
 returns-in-Some c = c.is_edf_key.ensures ∙ first_key _ _ c.in-Some.ensures
 
 pub returns-in-None : goal.returns-in-None
-returns-in-None c = no_first_key _ _ c.in-None.ensures
+returns-in-None c = no_first_key c.in-None.ensures
