@@ -54,11 +54,12 @@ pub fn escaped_length(text: &[u8]) -> usize
     n
 }
 
-// Writes the escaped characters between quotes. `o` is a place in `out`, which moves by one or by two.
+// Writes the escaped characters between quotes: how many bytes. `o` is a place in `out`, which moves by one or by two.
 #[tactic(auto, unfolding(crate::specs::Text::quoted_text))]
-pub fn write_quoted(text: &[u8], out: &mut [u8])
+pub fn write_quoted(text: &[u8], out: &mut [u8]) -> usize
     requires { length (quoted_text text.now) ≤ length out.old }
-    ensures { out.new ≡ over (quoted_text text.now) out.old }
+    ensures value { result ≡ length (quoted_text text.now) }
+    ensures out_after { out.new ≡ over (quoted_text text.now) out.old }
 {
     out[0] = b'"';
     let mut o = 1;
@@ -76,6 +77,7 @@ pub fn write_quoted(text: &[u8], out: &mut [u8])
         }
     }
     out[o] = b'"';
+    o + 1
 }
 
 // Text in value form, at the front of the buffer. Errors 24, then 25, then 22.
@@ -94,8 +96,7 @@ pub fn escape(text: &[u8], out: &mut [u8]) -> Result<usize, Error>
     if n > out.len() {
         return buffer::failure(22);
     }
-    write_quoted(text, out);
-    Ok(n)
+    Ok(write_quoted(text, out))
 }
 
 // ---- From a value

@@ -12,7 +12,7 @@ use append::words::{IDENTITY_MOST, ORDER_MOST, TYPE_MOST};
 use frame::Frame;
 use rendering::filling::filling;
 use rendering::lines::{dim_lines, identity_line, number_line, order_line, type_line};
-use text::escape::{escaped_length, write_quoted};
+use text::escape::write_quoted;
 
 // How many bytes the lines before the title take at most, and the front of a header (`specs/Front`). A line has 7 bytes beside its
 // key and its value.
@@ -55,8 +55,8 @@ fn put_quoted(title: &[u8], out: &mut Appender<'_>)
     requires room { HasRoom (length (quoted_text title.now)) out.old }
     ensures { AppendedWithin (length (quoted_text title.now)) (quoted_text title.now) out.old out.new }
 {
-    write_quoted(title, &mut out.bytes[out.at..]);
-    out.at += escaped_length(title) + 2;
+    let n = write_quoted(title, &mut out.bytes[out.at..]);
+    out.at += n;
 }
 
 // The whole header, of its front and the title, at the front of a file.

@@ -26,7 +26,12 @@ loop-b-preserved c =
           rw (w.out-is, w.o-is) (left_put room (rw plain at c.loop-b.invariant))
     ]
 
-pub returns : goal.returns
-returns c =
+pub returns-clause-value : goal.returns-clause-value
+returns-clause-value c =
+    let left = rw (escaped_end _ c.loop-b.b-index c.loop-b-test.false) at c.loop-b.invariant in
+    omega (arith, left.room)
+
+pub returns-clause-out_after : goal.returns-clause-out_after
+returns-clause-out_after c =
     let room : length (quoted_text c.args.text.now) ≤ length (slice_set c.args.out.now 0 34) = simp length-set c.requires in
     left_done (left_put room (rw (escaped_end _ c.loop-b.b-index c.loop-b-test.false) at c.loop-b.invariant)) ∙ over_quoted _ _
