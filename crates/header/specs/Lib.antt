@@ -9,5 +9,4 @@ pub mod Limits
 pub mod Lookup
 pub mod Repeats
 pub mod Statements
-pub mod Tests
 pub mod Walks

@@ -2,7 +2,7 @@
 ghost use Rattle.std.specs.Prelude.{◌≡◌, ℕ, Bool, not};
 ghost use Rattle.scan.specs.Search.{first_from};
 ghost use Rattle.text.specs.Text.{every};
-ghost use Rattle.header.specs.Tests.{TestsAs};
+ghost use Rattle.text.specs.Tests.{TestsAs};
 
 // The bytes that are looked at together.
 const BLOCK: usize = 64;

@@ -1,8 +1,8 @@
 -- Escapes and unescapes one byte at a time: what stands at i decides what is next.
 use Rattle.std.specs.Prelude.{Option, None, Some}
 use mathlib.Core.Path.{◌≡◌, refl, ap, ◌∙◌}
-use mathlib.Core.Bool.{Bool, true, false, not, cond, ◌&&◌, ◌||◌, and_assoc}
-use mathlib.Core.List.{List, [], ◌∷◌, ◌++◌}
+use mathlib.Core.Bool.{Bool, true, false, not, cond, ◌&&◌, ◌||◌}
+use mathlib.Core.List.{List, [], ◌∷◌}
 use Prim.Native.Nat.{ℕ, ◌+◌, ◌*◌, ◌≤◌, ◌<◌}
 use native.Mathlib.Omega.{arith}
 use lib.Dec.{eqb}
@@ -26,11 +26,6 @@ module _ (p : ℕ → Bool) (s : List ℕ) (i : ℕ) where
 
   pub passed_all : length s ≤ i → every p (drop i s) ≡ true
   passed_all h = ap (every p) (drop_of_length-le s h)
-
--- And of two lists, one after the other.
-pub every_append : (p : ℕ → Bool) (a b : List ℕ) → every p (a ++ b) ≡ (every p a && every p b)
-every_append p [] b = refl
-every_append p (x ∷ a) b = rw (every_append p a b, and_assoc)
 
 -- ---- Escaping
 

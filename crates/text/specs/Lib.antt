@@ -3,6 +3,7 @@ pub mod Escapes
 pub mod Fold
 pub mod Key
 pub mod Number
+pub mod Tests
 pub mod Text
 pub mod Value
 pub mod Whitespace

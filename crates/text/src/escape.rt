@@ -5,6 +5,7 @@ ghost use Rattle.text.specs.Escapes as spec;
 ghost use Rattle.text.specs.Text.{every, text_byte, value_byte, escaped_body, quoted_text, escaped, text_of, short_text, unescaped};
 
 use super::TEXT_LIMIT;
+use crate::passing::all_pass;
 use crate::{buffer, value};
 use scan::Error;
 
@@ -21,7 +22,7 @@ fn is_text_byte(b: u8) -> bool
 pub fn all_text_bytes(l: &[u8]) -> bool
     ensures { result ≡ every text_byte l.now }
 {
-    l.iter().all(|b| is_text_byte(*b))
+    all_pass(l, is_text_byte)
 }
 
 // The letter with which a byte is escaped, if it is.
@@ -101,12 +102,6 @@ pub fn escape(text: &[u8], out: &mut [u8]) -> Result<usize, Error>
 
 // ---- From a value
 
-// The bytes at the front of a value, which are tested one at a time.
-const FRONT: usize = 16;
-
-// The bytes behind them that are tested together.
-const PIECE: usize = 64;
-
 // Whether a byte may stand between `=` and `;`: 1 to 127, no brace and no `;`. There is no branch, so that the compiler tests many
 // bytes at once.
 #[tactic(auto, unfolding(crate::specs::Text::value_byte, crate::specs::Text::text_byte))]
@@ -116,35 +111,10 @@ fn is_value_byte(b: u8) -> bool
     is_text_byte(b) & (b != b'{') & (b != b'}') & (b != b';')
 }
 
-// Whether all bytes of a piece may stand there. All are looked at, whatever the first are.
-fn is_value_piece(piece: &[u8]) -> bool
-    ensures { result ≡ every value_byte piece.now }
-{
-    let mut all = true;
-    for &b in piece {
-        all &= is_value_byte(b);
-    }
-    all
-}
-
-// The same of any number of bytes, a piece at a time.
-fn are_value_pieces(l: &[u8]) -> bool
-    ensures { result ≡ every value_byte l.now }
-{
-    for piece in l.chunks(PIECE) {
-        if !is_value_piece(piece) {
-            return false;
-        }
-    }
-    true
-}
-
-// The same, the front one at a time: most values are short, and a bad byte there is found at once.
 fn all_value_bytes(l: &[u8]) -> bool
     ensures { result ≡ every value_byte l.now }
 {
-    let (front, rest) = l.split_at(l.len().min(FRONT));
-    front.iter().all(|b| is_value_byte(*b)) && are_value_pieces(rest)
+    all_pass(l, is_value_byte)
 }
 
 fn is_line_break(b: u8) -> bool

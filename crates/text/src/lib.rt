@@ -6,6 +6,7 @@ pub mod decimal;
 pub mod escape;
 pub mod key;
 pub mod number;
+pub mod passing;
 pub mod signed;
 pub mod value;
 pub mod whitespace;

@@ -1,7 +1,7 @@
 -- `header::search::find_by_blocks` meets its contract: in what is passed over no byte passes the test.
 use Rattle.std.proofs.Common.{◌≡◌, ℕ, Bool, length, ◌-◌}
 use Rattle.scan.specs.Search.{first_from}
-use Rattle.header.specs.Tests.{TestsAs}
+use Rattle.text.specs.Tests.{TestsAs}
 use Rattle.header.proofs.search.find_by_blocks.Given as goal
 
 abbrev pub invariant-loop-i : goal.invariant-loop-i

@@ -1,7 +1,7 @@
 -- `header::search::none_passes` meets its contract. The invariant: the answer is that of the bytes passed, and that of those left.
 use Rattle.std.proofs.Common.{◌≡◌, ℕ, Bool, not, ◌&&◌, drop}
 use Rattle.text.specs.Text.{every}
-use Rattle.header.specs.Tests.{TestsAs}
+use Rattle.text.specs.Tests.{TestsAs}
 use Rattle.header.proofs.search.none_passes.Given as goal
 
 abbrev pub invariant-loop-b : goal.invariant-loop-b
