@@ -27,3 +27,12 @@ pub fn put<T: Copy>(answer: Result<T, Error>, room: &mut T, position: &mut usize
         Err(e) => put_error(e, position),
     }
 }
+
+// The answer of a call that writes into a lent buffer: how many bytes, or the error.
+pub fn put_written(answer: Result<usize, Error>, written: &mut usize, position: &mut usize) -> u8
+    ensures value { result ≡ code_of answer }
+    ensures written_after { written.new ≡ value_after answer written.old }
+    ensures position_after { position.new ≡ position_after answer position.old }
+{
+    put(answer, written, position)
+}

@@ -11,7 +11,7 @@ ghost use Rattle.edf_c.specs.Fields.{span_of};
 ghost use Rattle.edf_c.specs.Samples.{sample_of, sample_after};
 ghost use Rattle.edf_c.specs.Stored.{flag, stored_of, stored_numbers, DeliveredAt};
 
-use crate::answers::{put, put_error};
+use crate::answers::{put, put_error, put_written};
 use raster::Pixel;
 use records::numbers::{DESCRIPTION, description_numbers};
 
@@ -47,7 +47,7 @@ pub extern "C" fn edf_read_array(
     ensures out_after { out.new ≡ buffer_after (array_in file.now block order) out.old }
 {
     let answer = edf::read_array(file, block, order, out);
-    put(answer, written, position)
+    put_written(answer, written, position)
 }
 
 // The array of a block as it is stored: `edf::stored_array`. The numbers of its description, its span, and 1 or 0 for

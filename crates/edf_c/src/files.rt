@@ -9,7 +9,7 @@ ghost use Rattle.edf_c.specs.Answers.{code_of, value_after, position_after};
 ghost use Rattle.edf_c.specs.Fields.{span_of};
 ghost use Rattle.edf_c.specs.Opening.{OpensNumbers};
 
-use crate::answers::{put, put_error};
+use crate::answers::{put_error, put_written};
 use records::numbers::ROW;
 use scan::Span;
 
@@ -52,7 +52,7 @@ pub extern "C" fn edf_list(
     ensures out_after { out.new ≡ buffer_after (Ok (listing file.now)) out.old }
 {
     let answer = edf::list(file, out);
-    put(answer, written, position)
+    put_written(answer, written, position)
 }
 
 // How long the part of the file at a span is: `edf::part`, which starts at the offset. 0 where the span does not lie inside.

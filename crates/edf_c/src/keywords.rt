@@ -9,7 +9,7 @@ ghost use Rattle.edf_c.specs.Answers.{code_of, value_after, position_after, with
 ghost use Rattle.edf_c.specs.Fields.{span_of};
 ghost use Rattle.edf_c.specs.Reals.{unit_and_float, real_numbers};
 
-use crate::answers::{put, put_error};
+use crate::answers::{put, put_error, put_written};
 use reals::measures;
 
 // Where the value of a keyword of a block stands in the file, by its offset and its length: `edf::find`. The bytes there are the
@@ -54,7 +54,7 @@ pub extern "C" fn edf_text(
     ensures out_after { out.new ≡ buffer_after (text_in file.now block key.now) out.old }
 {
     let answer = edf::text(file, block, key, out);
-    put(answer, written, position)
+    put_written(answer, written, position)
 }
 
 // The value of a keyword of a block as a whole number: `edf::whole_number`.

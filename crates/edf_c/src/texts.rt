@@ -4,7 +4,7 @@ ghost use Rattle.scan.specs.Buffer.{length_written, buffer_after};
 ghost use Rattle.text.specs.Text.{escaped, unescaped};
 ghost use Rattle.edf_c.specs.Answers.{code_of, value_after, position_after};
 
-use crate::answers::put;
+use crate::answers::put_written;
 
 // Text in value form, at the front of the lent buffer: `edf::escape`.
 #[unsafe(no_mangle)]
@@ -20,7 +20,7 @@ pub extern "C" fn edf_escape(
     ensures out_after { out.new ≡ buffer_after (escaped bytes.now) out.old }
 {
     let answer = edf::escape(bytes, out);
-    put(answer, written, position)
+    put_written(answer, written, position)
 }
 
 // The text of a value, at the front of the lent buffer: `edf::unescape`.
@@ -37,5 +37,5 @@ pub extern "C" fn edf_unescape(
     ensures out_after { out.new ≡ buffer_after (unescaped value.now) out.old }
 {
     let answer = edf::unescape(value, out);
-    put(answer, written, position)
+    put_written(answer, written, position)
 }

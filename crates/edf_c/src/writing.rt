@@ -5,7 +5,7 @@ ghost use Rattle.frame.specs.File.{written_file, FitsFile};
 ghost use Rattle.edf_c.specs.Answers.{code_of, value_after, position_after};
 ghost use Rattle.edf_c.specs.Fields.{frame_of};
 
-use crate::answers::put;
+use crate::answers::put_written;
 use frame::Frame;
 
 // A file of one block, at the front of the lent buffer: `edf::write` of the frame with these fields.
@@ -45,5 +45,5 @@ pub extern "C" fn edf_write(
         configuration,
     };
     let answer = edf::write(frame, title, pixels, out);
-    put(answer, written, position)
+    put_written(answer, written, position)
 }

@@ -12,7 +12,7 @@ use strides::places::Row;
 
 // Whether blocks are quicker than one element a turn: not for rows of less than 512 bytes, nor where the bytes of elements of
 // four would be reversed twice.
-fn are_quicker(w: usize, n: usize, a: Addition) -> bool
+pub fn are_quicker(w: usize, n: usize, a: Addition) -> bool
     ensures { result ≡ true → Short w }
 {
     match w {

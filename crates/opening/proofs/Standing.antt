@@ -1,5 +1,5 @@
 -- Where the loop that opens a file stands: at its start, after a turn, and at its end.
-use Rattle.scan.specs.Outcome.{error_at}
+use Rattle.scan.specs.Outcome.{Outcome, error_at}
 use Rattle.std.specs.Prelude.{ℕ, None, Some, Ok, Err}
 use mathlib.Core.Path.{◌≡◌, refl, sym, ◌∙◌}
 use mathlib.Core.Bool.{true, false}
@@ -16,7 +16,7 @@ use Rattle.blocks.specs.Opening.{repeats, opened}
 use Rattle.blocks.specs.declared.Accepted.{Accepted}
 use Rattle.blocks.specs.declared.FileRules.{FileRules}
 use Rattle.blocks.specs.declared.Row.{Row}
-use Rattle.opening.specs.Core.{step_of, Opens}
+use Rattle.opening.specs.Core.{step_of, counted, Opens}
 use Rattle.opening.proofs.Turns.{answer_from, turn_ends, turn_fails, turn_repeats, turn_on, block_before}
 
 -- The rows are a whole table, and the answer from here is the answer from the start.
@@ -24,6 +24,10 @@ pub record Stands (s : List ℕ) (rows : List Row) (count end : ℕ) (r : FileRu
   pub few : count ≤ block_limit
   pub whole : length rows ≡ block_limit
   pub answers : opened s ≡ answer_from s rows count end r
+
+-- In an error it does not matter which rows were placed.
+pub refused_with : {s : List ℕ} (rows : List Row) {r : Outcome ℕ} {e : Error} → r ≡ Err e → Opens s (Err e) → Opens s (counted rows r)
+refused_with rows q h = rw q h
 
 module _ (s : List ℕ) {rows : List Row} where
   -- At the start no row is placed.

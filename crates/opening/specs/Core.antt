@@ -28,6 +28,11 @@ rows_of o = take o.count o.rows
 abbrev pub IsBounded : Opened → Type 0
 IsBounded o = (o.count ≤ block_limit) × (length o.rows ≡ block_limit)
 
+-- A file that was opened, by how many rows of a table are its own.
+abbrev pub counted : List Row → Outcome ℕ → Outcome Opened
+counted rows (Ok n) = Ok (record { rows = rows; count = n })
+counted rows (Err e) = Err e
+
 -- The answer is that of `opened`.
 pub record Opens (s : List ℕ) (r : Outcome Opened) : Type 0 where
   pub says : mapped rows_of r ≡ opened s

@@ -5,7 +5,7 @@ ghost use Rattle.blocks.specs.Opening.{same_identity, repeats};
 use blocks::Row;
 
 #[tactic(auto, unfolding(blocks::specs::Opening::same_identity), using(crate::proofs::Searches::same_bits))]
-fn same_identity(x: Row, y: Row) -> bool
+pub fn same_identity(x: Row, y: Row) -> bool
     ensures { result ≡ same_identity x y }
 {
     x.instance == y.instance && x.sequence == y.sequence && x.memory == y.memory

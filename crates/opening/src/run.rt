@@ -1,10 +1,10 @@
 // The loop over the blocks of a file.
-ghost use Rattle.opening.specs.Core.{Opens};
+ghost use Rattle.opening.specs.Core.{Opens, counted};
 
 use super::identity::repeats;
 use super::steps::next_block;
 use super::{BLANK, Opened};
-use blocks::{BLOCK_LIMIT, FileRules, PLAIN_BOUNDARY};
+use blocks::{BLOCK_LIMIT, FileRules, PLAIN_BOUNDARY, Row};
 use header::error_at;
 use scan::Error;
 
@@ -15,11 +15,12 @@ const NO_RULES: FileRules = FileRules {
     expected: 0,
 };
 
-// The rows of a file. `end` is where the block before ended, 0 before the first.
-pub fn opened(file: &[u8]) -> Result<Opened, Error>
-    ensures { Opens file.now result }
+// Puts the rows of a file into a table, and answers how many there are. `end` is where the block before ended, 0 before the
+// first. With this apart, `opened` is small and becomes a part of its callers, so the rows are not copied on the way to them.
+#[inline(never)]
+fn placed(file: &[u8], rows: &mut [Row; BLOCK_LIMIT]) -> Result<usize, Error>
+    ensures { Opens file.now (counted rows.new result) }
 {
-    let mut rows = [BLANK; BLOCK_LIMIT];
     let mut count = 0;
     let mut end = 0;
     let mut rules = NO_RULES;
@@ -32,5 +33,17 @@ pub fn opened(file: &[u8]) -> Result<Opened, Error>
         end = block.next;
         rules = block.rules;
     }
-    Ok(Opened { rows, count })
+    Ok(count)
+}
+
+// The rows of a file.
+pub fn opened(file: &[u8]) -> Result<Opened, Error>
+    ensures { Opens file.now result }
+{
+    let mut opened = Opened {
+        rows: [BLANK; BLOCK_LIMIT],
+        count: 0,
+    };
+    opened.count = placed(file, &mut opened.rows)?;
+    Ok(opened)
 }

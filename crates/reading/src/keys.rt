@@ -34,7 +34,7 @@ pub fn is_edf_key(k: &[u8]) -> bool
 
 // The first statement from `from` on whose key is that of `sought`, among those before the first key that is no EDF_ key.
 // `s` ends where the body ends.
-fn find_counting(s: &[u8], from: usize, sought: &[u8]) -> Option<Statement>
+pub fn find_counting(s: &[u8], from: usize, sought: &[u8]) -> Option<Statement>
     ensures { result ≡ first_statement s.now (key_of sought.now) (counting_statements s.now (leading_statements s.now from)) }
 {
     for next in Statements::new(s, from) {
