@@ -12,7 +12,7 @@ use strides::places::Row;
 
 // Whether blocks are quicker than one element a turn: not for rows of less than 512 bytes, nor where the bytes of elements of
 // four would be reversed twice.
-fn are_quicker(w: usize, n: usize, a: Addition) -> bool
+pub fn are_quicker(w: usize, n: usize, a: Addition) -> bool
     ensures { result ≡ true → Short w }
 {
     match w {
@@ -23,7 +23,8 @@ fn are_quicker(w: usize, n: usize, a: Addition) -> bool
     }
 }
 
-// Block by block.
+// Block by block. Out of line: shorter rows do not pay for its arrays.
+#[inline(never)]
 fn by_blocks(src: &[u8], w: usize, row: &Row, a: Addition, out: &mut [u8])
     requires width { Short w }
     requires fits { Fits row.now w (length src.now) (length out.old) }
