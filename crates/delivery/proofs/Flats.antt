@@ -1,5 +1,5 @@
 -- A plane whose rows stand one after another is a row, and so is a cube whose planes do.
-use mathlib.Core.Path.{◌≡◌, refl, sym, ap, transport, ◌∙◌}
+use mathlib.Core.Path.{◌≡◌, refl, sym, ap, subst, transport, ◌∙◌}
 use mathlib.Core.Bool.{true}
 use mathlib.Core.List.{List, [], ◌++◌}
 use Prim.Native.Nat.{ℕ, zero, suc, ◌+◌, ◌*◌, ◌≤◌, ◌<◌}
@@ -16,7 +16,7 @@ use Rattle.strides.specs.declared.places.Row.{Row}
 use Rattle.conversion.specs.Plane.{IsInside, rows_of}
 use Rattle.conversion.specs.declared.rows.Plane.{Plane}
 use Rattle.raster.proofs.Joined.{joined_same}
-use Rattle.strides.proofs.Filling.{over_part}
+use Rattle.strides.proofs.Filling.{length-joined, over_part}
 use Rattle.strides.proofs.RowLaws.{length_row}
 use Rattle.strides.proofs.Parts.{row_add}
 use Rattle.delivery.specs.Cube.{plane_at, IsCubeInside, planes_of}
@@ -126,6 +126,46 @@ module _ (w : ℕ) (c : Cube) (is : flat_cube w c ≡ true) where
       let n = n1 * n2 * c.count in
       over_part [] q d d 0 k refl refl (ap length g ∙ length_row f w keeps s row.at row.up row.down n (cube_inside (length s) h) ∙ sym e)
       ∙ ap (λ (l : List ℕ). over l d) (g ∙ cube_row f s)
+
+-- ---- The cube of planes that have one row
+
+place_first : (at up down : ℕ) → place at up down 0 ≡ at
+place_first at up down = omega (arith, mul-zero up, mul-zero down)
+
+-- Its rows are a plane.
+abbrev pub rows_across : Cube → Plane
+rows_across c = record { first = c.first.first; up = c.up; down = c.down; count = c.count }
+
+module _ (w : ℕ) (c : Cube) (one : c.first.count ≡ 1) where
+  pub across_inside : (len : ℕ) → IsCubeInside c w len → IsInside (rows_across c) w len
+  across_inside len h i k =
+      let r = c.first.first in
+      let at = place r.at c.up c.down i in
+      ((h i k).0, subst (λ (x : ℕ). Inside x r.up r.down r.count w len) (place_first at c.first.up c.first.down) ((h i k).1 0 (omega arith)).1)
+
+  across_rows : (f : List ℕ → List ℕ) (s : List ℕ) → rows_of f w s (rows_across c) ≡ planes_of f w s c
+  unfolding planes_of plane_of joined
+  across_rows f s =
+      let r = c.first.first in
+      joined_same c.count _ _
+      (λ i k.
+      let at = place r.at c.up c.down i in
+      sym
+      (ap (λ (n : ℕ). plane_of f w s at r.up r.down r.count c.first.up c.first.down n) one
+      ∙ ap (λ (x : ℕ). row_of f w s x r.up r.down r.count) (place_first at c.first.up c.first.down)))
+
+  -- Written as a plane, at the front of d.
+  pub across_written : (f : List ℕ → List ℕ) → ((l : List ℕ) → length l ≡ w → length (f l) ≡ w) → (s : List ℕ) → IsCubeInside c w (length s)
+      → (k : ℕ) (d q : List ℕ) → k ≡ w * c.first.first.count * c.count → q ≡ rows_of f w s (rows_across c)
+      → q ++ drop k d ≡ over (planes_of f w s c) d
+  unfolding plane_of
+  across_written f keeps s h k d q e g =
+      let r = c.first.first in
+      let m =
+      length-joined c.count (w * r.count) _
+      (λ i t. length_row f w keeps s (place r.at c.up c.down i) r.up r.down r.count (across_inside (length s) h i t).1)
+      in
+      over_part [] q d d 0 k refl refl (ap length g ∙ m ∙ sym e) ∙ ap (λ (l : List ℕ). over l d) (g ∙ across_rows f s)
 
 -- ---- Lengths
 

@@ -60,14 +60,14 @@ fn is_flat_cube(w: usize, cube: Cube) -> bool
 
 // A plane: as one row, where its rows stand one after another; run by run, where its rows are delivered as they stand; by tiles,
 // where that is quicker; else row by row.
-fn deliver_plane(src: &[u8], c: Conversion, plane: Plane, out: &mut [u8])
-    requires width { Width c.width }
-    requires inside { IsInside plane c.width (length src.now) }
-    requires row_bound { c.width * plane.first.count < 2 ^ 64 }
-    requires fills { FillsOut plane c.width (length out.old) }
-    ensures { out.new ≡ rows_of (converted c) c.width src.now plane }
+fn deliver_plane(src: &[u8], c: &Conversion, plane: &Plane, out: &mut [u8])
+    requires width { Width c.now.width }
+    requires inside { IsInside plane.now c.now.width (length src.now) }
+    requires row_bound { c.now.width * plane.now.first.count < 2 ^ 64 }
+    requires fills { FillsOut plane.now c.now.width (length out.old) }
+    ensures { out.new ≡ rows_of (converted c.now) c.now.width src.now plane.now }
 {
-    if is_flat(c.width, plane) {
+    if is_flat(c.width, *plane) {
         let count = plane.first.count * plane.count;
         row(
             src,
@@ -78,10 +78,10 @@ fn deliver_plane(src: &[u8], c: Conversion, plane: Plane, out: &mut [u8])
             },
             out,
         );
-    } else if are_runs(c, plane.first) {
-        runs(src, c.width, plane, out);
-    } else if are_quicker(plane) {
-        bands(src, c, plane, out);
+    } else if are_runs(*c, plane.first) {
+        runs(src, c.width, *plane, out);
+    } else if are_quicker(*plane) {
+        bands(src, *c, *plane, out);
     } else {
         rows(src, c, plane, out);
     }
@@ -98,14 +98,14 @@ fn deliver_planes(src: &[u8], c: Conversion, cube: Cube, out: &mut [u8])
         let size = c.width * cube.first.first.count * cube.first.count;
         deliver_plane(
             src,
-            c,
-            cube.plane(c.width, src, i),
+            &c,
+            &cube.plane(c.width, src, i),
             &mut out[size * i..size * (i + 1)],
         );
     }
 }
 
-// A cube: as one row, where its planes stand one after another; else plane by plane.
+// A cube: as one row, where its planes stand one after another; as one plane, where each has one row; else plane by plane.
 fn deliver_cube(src: &[u8], c: Conversion, cube: Cube, out: &mut [u8])
     requires width { Width c.width }
     requires inside { IsCubeInside cube c.width (length src.now) }
@@ -117,13 +117,22 @@ fn deliver_cube(src: &[u8], c: Conversion, cube: Cube, out: &mut [u8])
         let count = plane.first.count * plane.count * cube.count;
         row(
             src,
-            c,
+            &c,
             &Row {
                 count,
                 ..plane.first
             },
             &mut out[..c.width * count],
         );
+    } else if cube.first.count == 1 {
+        let rows = Plane {
+            first: cube.first.first,
+            up: cube.up,
+            down: cube.down,
+            count: cube.count,
+        };
+        let size = c.width * rows.first.count * rows.count;
+        deliver_plane(src, &c, &rows, &mut out[..size]);
     } else {
         deliver_planes(src, c, cube, out);
     }

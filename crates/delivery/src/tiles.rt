@@ -81,7 +81,7 @@ fn tile(src: &[u8], c: Conversion, plane: Plane, m: usize, k: usize, out: &mut [
     };
     let size = c.width * plane.count * k;
     let mut copy = [0; 16384];
-    rows(src, c, columns, &mut copy[..size]);
+    rows(src, &c, &columns, &mut copy[..size]);
     spread(&copy[..size], c.width, m, k, row.count, plane.count, out);
 }
 
@@ -99,7 +99,8 @@ fn band(src: &[u8], c: Conversion, plane: Plane, out: &mut [u8])
     }
 }
 
-// The bands of a plane, of 256 bytes along index 2, one after the other.
+// The bands of a plane, of 256 bytes along index 2, one after the other. Out of line: small planes do not pay for a tile's array.
+#[inline(never)]
 pub fn bands(src: &[u8], c: Conversion, plane: Plane, out: &mut [u8])
     requires width { Width c.width × OneWay plane.up plane.down }
     requires inside { IsInside plane c.width (length src.now) }

@@ -8,7 +8,9 @@ use strides::changes::Reversed;
 use strides::places::Row;
 use strides::rows::each;
 
-// The bytes from `at` on, which may lie past the end where there is none.
+// The bytes from `at` on, which may lie past the end where there is none. Out of line: the copy asks first whether the two overlap,
+// and in a loop of its callers that would be prepared for each plane.
+#[inline(never)]
 pub fn run(src: &[u8], at: usize, out: &mut [u8])
     requires { length out.old ≤ length src.now - at }
     ensures { out.new ≡ take (length out.old) (drop at src.now) }

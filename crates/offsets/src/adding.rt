@@ -13,9 +13,9 @@ use strides::rows::each;
 
 // An offset added, to elements as numbers of the type T.
 #[derive(Drop)]
-struct Added<T> {
-    by: Addition,
-    of: PhantomData<T>,
+pub struct Added<T> {
+    pub by: Addition,
+    pub of: PhantomData<T>,
 }
 
 impl<const W: usize, T: Lane<W>> Change<W> for Added<T> {

@@ -23,7 +23,8 @@ pub fn are_quicker(w: usize, n: usize, a: Addition) -> bool
     }
 }
 
-// Block by block.
+// Block by block. Out of line: shorter rows do not pay for its arrays.
+#[inline(never)]
 fn by_blocks(src: &[u8], w: usize, row: &Row, a: Addition, out: &mut [u8])
     requires width { Short w }
     requires fits { Fits row.now w (length src.now) (length out.old) }

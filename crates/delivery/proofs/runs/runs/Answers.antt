@@ -1,4 +1,4 @@
-use Rattle.std.proofs.Common.{◌≡◌, List, ℕ, ◌+◌, ◌-◌, ◌*◌, ◌<◌, false, length, take, drop, refl, ap, ◌∙◌, arith, rules}
+use Rattle.std.proofs.Common.{◌≡◌, List, ℕ, ◌+◌, ◌-◌, ◌*◌, ◌<◌, false, length, take, drop, refl, sym, ap, ◌∙◌, arith, rules}
 use native.Mathlib.Nat.{mul-one}
 use Rattle.raster.specs.Bytes.{joined}
 use Rattle.raster.specs.Strided.{turned, place, row_of, plane_of}
@@ -7,6 +7,7 @@ use Rattle.strides.proofs.Filling.{piece_more, pieces_done}
 use Rattle.strides.proofs.RowLaws.{keeps, length_row}
 use Rattle.elements.proofs.RunLaws.{runs_inside, ran}
 use Rattle.delivery.proofs.BandLaws.{part_room}
+use Rattle.delivery.proofs.StoredRows.{plane_bytes}
 use Rattle.delivery.proofs.runs.runs.Goals as goal
 
 pub loop-i-init : goal.loop-i-init
@@ -43,9 +44,9 @@ loop-i-preserved c =
     (ran w p.first.up p.first.down (place p.first.at p.up p.down c.loop-i.i) p.first.count _ s _ c.requires.up c.requires.down
     (size ∙ mul-one m) (c.run.ensures ∙ ap (λ (r : Row). take part (drop r.at s)) c.row.ensures))
 
-pub returns : goal.returns
+pub returns-clause-elements : goal.returns-clause-elements
 unfolding plane_of
-returns c =
+returns-clause-elements c =
     let p = c.args.plane in
     let w = c.args.w in
     let s = c.args.src.now in
@@ -53,3 +54,7 @@ returns c =
     pieces_done f (w * p.first.count) p.count c.args.out.now
     (λ j h. length_row (turned false) w (keeps false) s _ p.first.up p.first.down p.first.count (c.requires.inside j h).1) c.loop-i.i _
     c.loop-i.auto.i-end c.loop-i-test.false c.requires.fills c.loop-i.invariant
+
+pub returns-clause-bytes : goal.returns-clause-bytes
+returns-clause-bytes c =
+    returns-clause-elements c ∙ sym (plane_bytes c.args.w c.args.plane c.requires.up c.requires.down c.args.src.now)
