@@ -8,6 +8,7 @@ ghost use Rattle.text.specs.Tests.{TestsAs};
 const BLOCK: usize = 64;
 
 // The first offset from `from` on whose byte passes the test.
+#[tactic(auto, using(scan::proofs::Searches::search_hit, scan::proofs::Searches::search_on, scan::proofs::Searches::search_end))]
 pub fn find_where<F: Fn(u8) -> bool>(s: &[u8], from: usize, test: F) -> Option<usize>
     requires { F.IsAlwaysCallable test }
     ensures { (p : ℕ → Bool) → TestsAs F.Fn test p → result ≡ first_from p s.now from }
