@@ -45,22 +45,29 @@ unfolding plane_of
 plane_unchanged c p is s =
     joined_same p.count _ _ (λ i h. run_unchanged c p.first.up p.first.down is s (place p.first.at p.up p.down i) p.first.count)
 
--- The bytes of runs are the elements.
+-- The bytes of a run are the elements,
+row_bytes : (w up down at n : ℕ) → up ≡ w → down ≡ 0 → (s : List ℕ)
+    → row_of (turned false) 1 s at 1 0 (w * n) ≡ row_of (turned false) w s at up down n
+row_bytes w up down at n u d s =
+    let m = w * n in
+    ran w up down at n m s _ u d refl (flat 1 s at m ∙ ap (λ (k : ℕ). take k (drop at s)) (one-mul m))
+
+-- and so are those of runs.
 pub plane_bytes : (w : ℕ) (p : Plane) → p.first.up ≡ w → p.first.down ≡ 0 → (s : List ℕ)
     → plane_of (turned false) 1 s p.first.at 1 0 (w * p.first.count) p.up p.down p.count ≡ rows_of (turned false) w s p
 unfolding plane_of
 plane_bytes w p up down s =
-    let m = w * p.first.count in
-    joined_same p.count _ _
-    (λ i h.
-    let at = place p.first.at p.up p.down i in
-    ran w p.first.up p.first.down at p.first.count m s _ up down refl (flat 1 s at m ∙ ap (λ (k : ℕ). take k (drop at s)) (one-mul m)))
+    joined_same p.count _ _ (λ i h. row_bytes w p.first.up p.first.down (place p.first.at p.up p.down i) p.first.count up down s)
 
 module _ (c : Conversion) (t : Steps) (is : as_stored c t ≡ true) where
+  row_stored : (s : List ℕ) (at n : ℕ) → row_of (turned false) 1 s at 1 0 (c.width * n) ≡ row_of (converted c) c.width s at t.up1 t.down1 n
+  unfolding as_stored
+  row_stored s at n =
+      row_bytes c.width t.up1 t.down1 at n (run_up c t.up1 t.down1 is) (run_down c t.up1 t.down1 is) s
+      ∙ run_unchanged c t.up1 t.down1 is s at n
+
   pub plane_stored : (s : List ℕ) (at n1 n2 : ℕ)
       → plane_of (turned false) 1 s at 1 0 (c.width * n1) t.up2 t.down2 n2
       ≡ plane_of (converted c) c.width s at t.up1 t.down1 n1 t.up2 t.down2 n2
-  unfolding as_stored
-  plane_stored s at n1 n2 =
-      let p : Plane = record { first = record { at = at; up = t.up1; down = t.down1; count = n1 }; up = t.up2; down = t.down2; count = n2 } in
-      plane_bytes c.width p (run_up c t.up1 t.down1 is) (run_down c t.up1 t.down1 is) s ∙ plane_unchanged c p is s
+  unfolding plane_of
+  plane_stored s at n1 n2 = joined_same n2 _ _ (λ i h. row_stored s (place at t.up2 t.down2 i) n1)

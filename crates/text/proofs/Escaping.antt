@@ -1,4 +1,6 @@
 -- Escapes and unescapes one byte at a time: what stands at i decides what is next.
+use Rattle.std.specs.List.{filter}
+use Rattle.std.specs.Option.{is_some}
 use Rattle.std.specs.Prelude.{Option, None, Some}
 use mathlib.Core.Path.{◌≡◌, refl, ap, ◌∙◌}
 use mathlib.Core.Bool.{Bool, true, false, not, cond, ◌&&◌, ◌||◌}
@@ -8,8 +10,9 @@ use native.Mathlib.Omega.{arith}
 use lib.Dec.{eqb}
 use lib.ListN.{length, drop, set, get_or, drop_of_length-le, length-append}
 use Rattle.scan.specs.Buffer.{over}
+use Rattle.scan.proofs.Cases.{by_test}
 use Rattle.text.specs.Escapes.{letter, meaning}
-use Rattle.text.specs.Text.{every, escape_with, escaped_body, quoted_text, without_line_breaks, unescaped_after}
+use Rattle.text.specs.Text.{every, escape_with, escaped_body, quoted_text, without_line_breaks, unescaped_after, text_of}
 use Rattle.text.proofs.Buffers.{drop_next}
 
 -- ---- A test of every byte
@@ -40,6 +43,20 @@ module _ (s : List ℕ) (i : ℕ) (h : i < length s) where
 pub escaped_end : (s : List ℕ) (i : ℕ) → length s ≤ i → escaped_body (drop i s) ≡ []
 unfolding escaped_body
 escaped_end s i h = ap escaped_body (drop_of_length-le s h)
+
+-- One byte each, and one more for each that has a letter.
+abbrev pub has_letter : ℕ → Bool
+has_letter b = is_some (letter b)
+
+one_or_more : (b : ℕ) (t e : List ℕ) (o : Option ℕ) → letter b ≡ o → length t + length (filter has_letter t) ≡ length e
+    → length (b ∷ t) + length (filter has_letter (b ∷ t)) ≡ length (escape_with b o e)
+one_or_more b t e None q h = rw q (omega arith)
+one_or_more b t e (Some c) q h = rw q (omega arith)
+
+pub escaped_count : (t : List ℕ) → length t + length (filter has_letter t) ≡ length (escaped_body t)
+unfolding escaped_body
+escaped_count [] = refl
+escaped_count (b ∷ t) = one_or_more b t (escaped_body t) (letter b) refl (escaped_count t)
 
 -- One byte takes at most two.
 one_or_two : (b : ℕ) (o : Option ℕ) (l : List ℕ) → length (escape_with b o l) ≤ length l + 2
@@ -98,3 +115,22 @@ pub text_end : (s : List ℕ) (i : ℕ) (t : Bool) → length s ≤ i → text_a
 unfolding unescaped_after without_line_breaks
 text_end s i true h = ap (text_after true) (drop_of_length-le s h)
 text_end s i false h = ap (text_after false) (drop_of_length-le s h)
+
+-- The text is no longer than the value.
+kept-length : (s : List ℕ) → length (without_line_breaks s) ≤ length s
+unfolding without_line_breaks
+kept-length [] = omega arith
+kept-length (b ∷ s) =
+    by_test (eqb b 10 || eqb b 13) (λ e. rw e (omega (arith, kept-length s))) (λ e. rw e (omega (arith, kept-length s)))
+
+unescaped-length : (t : Bool) (s : List ℕ) → length (unescaped_after t s) ≤ length s
+unfolding unescaped_after
+unescaped-length true [] = omega arith
+unescaped-length false [] = omega arith
+unescaped-length true (b ∷ s) = omega (arith, unescaped-length false s)
+unescaped-length false (b ∷ s) =
+    by_test (eqb b 92) (λ e. rw e (omega (arith, unescaped-length true s))) (λ e. rw e (omega (arith, unescaped-length false s)))
+
+pub text-length : (s : List ℕ) → length (text_of s) ≤ length s
+unfolding text_of
+text-length s = omega (arith, unescaped-length false (without_line_breaks s), kept-length s)

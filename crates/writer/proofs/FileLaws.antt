@@ -1,8 +1,8 @@
 -- The file that the writer makes, and how long it is.
 use Rattle.std.specs.Prelude.{Option, None, Some}
-use mathlib.Core.Path.{◌≡◌, ap, ◌∙◌}
+use mathlib.Core.Path.{◌≡◌, refl, ap, ◌∙◌}
 use mathlib.Core.List.{List, [], ◌∷◌, ◌++◌}
-use Prim.Native.Nat.{ℕ, suc, ◌≤◌}
+use Prim.Native.Nat.{ℕ, suc, ◌+◌, ◌≤◌}
 use native.Mathlib.Omega.{arith}
 use lib.ListN.{length, length-append}
 use Rattle.text.specs.Text.{escape_with, escaped_body, quoted_text}
@@ -35,6 +35,11 @@ module _ (f : Frame) (title pixels : List ℕ) where
   pub file_made : {size : ℕ} {first : List ℕ} → size ≡ length (file_data f pixels) → first ≡ front f size
       → closed (titled first title) ++ file_data f pixels ≡ file_of f title pixels
   file_made q e = ap (λ (l : List ℕ). closed (titled l title) ++ file_data f pixels) (e ∙ ap (front f) q) ∙ file_is
+
+  module _ {size : ℕ} (q : size ≡ length (file_data f pixels)) where
+    pub total_length : {n : ℕ} → n ≡ length (closed (titled (front f size) title)) → n + size ≡ length (file_of f title pixels)
+    total_length e =
+        omega (arith, e, q, ap length (file_made q refl), length-append (closed (titled (front f size) title)) (file_data f pixels))
 
   pub data_within : length (file_data f pixels) ≤ length (file_of f title pixels)
   unfolding file_of
