@@ -59,6 +59,7 @@ unfolding plane_of
 plane_bytes w p up down s =
     joined_same p.count _ _ (λ i h. row_bytes w p.first.up p.first.down (place p.first.at p.up p.down i) p.first.count up down s)
 
+-- What is delivered as it is stored: the bytes of a row, and of a plane, are those of its elements.
 module _ (c : Conversion) (t : Steps) (is : as_stored c t ≡ true) where
   row_stored : (s : List ℕ) (at n : ℕ) → row_of (turned false) 1 s at 1 0 (c.width * n) ≡ row_of (converted c) c.width s at t.up1 t.down1 n
   unfolding as_stored

@@ -44,10 +44,11 @@ pub escaped_end : (s : List ℕ) (i : ℕ) → length s ≤ i → escaped_body (
 unfolding escaped_body
 escaped_end s i h = ap escaped_body (drop_of_length-le s h)
 
--- One byte each, and one more for each that has a letter.
+-- Whether a byte is escaped.
 abbrev pub has_letter : ℕ → Bool
 has_letter b = is_some (letter b)
 
+-- One byte each, and one more for each that is escaped.
 one_or_more : (b : ℕ) (t e : List ℕ) (o : Option ℕ) → letter b ≡ o → length t + length (filter has_letter t) ≡ length e
     → length (b ∷ t) + length (filter has_letter (b ∷ t)) ≡ length (escape_with b o e)
 one_or_more b t e None q h = rw q (omega arith)

@@ -36,6 +36,7 @@ module _ (f : Frame) (title pixels : List ℕ) where
       → closed (titled first title) ++ file_data f pixels ≡ file_of f title pixels
   file_made q e = ap (λ (l : List ℕ). closed (titled l title) ++ file_data f pixels) (e ∙ ap (front f) q) ∙ file_is
 
+  -- Its length is that of its header and that of its data.
   module _ {size : ℕ} (q : size ≡ length (file_data f pixels)) where
     pub total_length : {n : ℕ} → n ≡ length (closed (titled (front f size) title)) → n + size ≡ length (file_of f title pixels)
     total_length e =
